@@ -14,7 +14,7 @@ use Rattle.callorder.specs.Calls.{message_of, pattern_of, is_probe_kind, covers,
 use Rattle.callorder.specs.Programs.{MpiProgram, call_at, kind_holds}
 use Rattle.races.proofs.Kept.{takes_fit, takes_no_probe}
 use Rattle.balance.specs.declared.channels.Channel.{Channel}
-use Rattle.balance.specs.Balance.{taken_by, takes_any_source, takes_any_source_as, takes_any_tag, takes_any_tag_as, channel_to, channel_taken, channel_sent, channel_of, channel_of_call}
+use Rattle.balance.specs.Balance.{taken_by, leaves_source_open, takes_any_source_as, takes_any_tag, takes_any_tag_as, channel_to, channel_taken, channel_sent, channel_of, channel_of_call}
 use Rattle.balance.specs.Laws.{ChannelsAreClosed}
 
 any_there : (test : Call → Bool) (p : MpiProgram) (c : ℕ) (call : Call) → call_at p c ≡ Some call → test call ≡ true → list_any test p.calls ≡ true
@@ -46,7 +46,7 @@ own_address : (call : Call) (pattern : Pattern) → (call.rank == call.rank && p
 own_address call pattern =
     and_both (call.rank == call.rank) (pattern.communicator == pattern.communicator) (eq-eqb call.rank call.rank refl) (eq-eqb pattern.communicator pattern.communicator refl)
 
-any_source : (call : Call) (pattern : Pattern) → taken_by call ≡ Some pattern → is_none pattern.source ≡ true → takes_any_source call.rank pattern.communicator call ≡ true
+any_source : (call : Call) (pattern : Pattern) → taken_by call ≡ Some pattern → is_none pattern.source ≡ true → leaves_source_open call.rank pattern.communicator call ≡ true
 any_source call pattern taken none =
     ap (takes_any_source_as call.rank pattern.communicator call.rank) taken ∙
     and_both (call.rank == call.rank && pattern.communicator == pattern.communicator) (is_none pattern.source) (own_address call pattern) none
@@ -74,9 +74,9 @@ closed_calls p send call c message pattern there is off fit =
     let destination : message.destination ≡ call.rank = eqb-true message.destination call.rank address.0 in
     let communicator : message.communicator ≡ pattern.communicator = eqb-true message.communicator pattern.communicator address.1 in
     let taken = taken_is call pattern is off in
-    let any_s = list_any (takes_any_source call.rank pattern.communicator) p.calls in
+    let any_s = list_any (leaves_source_open call.rank pattern.communicator) p.calls in
     let any_t = list_any (takes_any_tag call.rank pattern.communicator) p.calls in
-    let sources = closed_part any_s pattern.source send.rank (λ none. any_there (takes_any_source call.rank pattern.communicator) p c call there (any_source call pattern taken none)) source.1 in
+    let sources = closed_part any_s pattern.source send.rank (λ none. any_there (leaves_source_open call.rank pattern.communicator) p c call there (any_source call pattern taken none)) source.1 in
     let tags = closed_part any_t pattern.tag message.tag (λ none. any_there (takes_any_tag call.rank pattern.communicator) p c call there (any_tag call pattern taken none)) tag.1 in
     ap (λ (d : ℕ). Some (channel_to p d message.communicator (Some send.rank) (Some message.tag))) destination ∙
     ap (λ (k : ℕ). Some (channel_to p call.rank k (Some send.rank) (Some message.tag))) communicator ∙

@@ -11,7 +11,7 @@ use Rattle.callorder.specs.declared.calls.Call.{Call}
 use Rattle.callorder.specs.Programs.{MpiProgram, call_at}
 use Rattle.balance.specs.declared.channels.Channel.{Channel}
 use Rattle.balance.specs.declared.counting.Imbalance.{Imbalance}
-use Rattle.balance.specs.Balance.{channel_at, channel_of_call, ArePlaces, AreSides, IsImbalance, AreImbalances, IsSendIn, IsTakerIn, IsAmong, is_send_at}
+use Rattle.balance.specs.Balance.{channel_at, channel_of_call, ArePlacesWhere, AreSides, IsImbalance, AreImbalances, IsSendInChannel, IsTakerIn, IsAmongSides, is_send_at}
 use Rattle.balance.specs.Sides.{AreNumberedSides, AreAllSides, IsSendNumbered, IsTakerNumbered}
 use Rattle.balance.proofs.Numbers.{no_more}
 use Rattle.balance.proofs.Lists.{Found, filter_pair, item_there, filter_passes, passes_filter}
@@ -71,10 +71,10 @@ same_channels test is a b = (λ on. same_parts a b (sym (is a b) ∙ on), λ e. 
 
 -- ---- lists of places
 
-places_as : (A B : ℕ → Type 0) (places : List ℕ) → ((c : ℕ) → A c → B c) → ((c : ℕ) → B c → A c) → ArePlaces A places → ArePlaces B places
+places_as : (A B : ℕ → Type 0) (places : List ℕ) → ((c : ℕ) → A c → B c) → ((c : ℕ) → B c → A c) → ArePlacesWhere A places → ArePlacesWhere B places
 places_as A B places f g are = record { sound = λ i c at. f c (are.sound i c at); all = λ c h. are.all c (g c h); once = are.once }
 
-places_upto : (test : ℕ → Type 0) (one other : List ℕ) → ArePlaces test one → ArePlaces test other → length one ≤ length other
+places_upto : (test : ℕ → Type 0) (one other : List ℕ) → ArePlacesWhere test one → ArePlacesWhere test other → length one ≤ length other
 places_upto test one other a b =
     no_more (length one) (length other) (λ i k. slice_get one i ≡ slice_get other k)
     (λ i below.
@@ -86,7 +86,7 @@ places_upto test one other a b =
     a.once i j (get_or one i 0) at (f ∙ sym e ∙ at))
 
 -- where two lists differ in size, one has a first place
-some_place : (test other : ℕ → Type 0) (one two : List ℕ) → ArePlaces test one → ArePlaces other two → length one ≢ length two → (c : ℕ) × (test c ⊎ other c)
+some_place : (test other : ℕ → Type 0) (one two : List ℕ) → ArePlacesWhere test one → ArePlacesWhere other two → length one ≢ length two → (c : ℕ) × (test c ⊎ other c)
 some_place test other one two a b differ =
     elim (cases_lt 0 (length one)) [
       | inl some ↦ (get_or one 0 0, inl (a.sound 0 (get_or one 0 0) (slice_get-get_or one 0 0 some)))
@@ -138,7 +138,7 @@ module _ (p : MpiProgram) (channels : List (Option Channel)) (numbers : List (Op
   are_sides : (c number : ℕ) (channel : Channel) (sides : Imbalance) → slice_get numbers c ≡ Some (Some number) → channel_at p c ≡ Some channel → AreNumberedSides p numbers number sides → AreSides p channel sides
   are_sides c number channel sides h is are =
       record {
-        sends = places_as (IsSendNumbered p numbers number) (IsSendIn p channel) sides.sends.items (λ d w. (to_channel c d number channel h is w.0, w.1)) (λ d w. (to_number c d number channel h is w.0, w.1)) are.sends;
+        sends = places_as (IsSendNumbered p numbers number) (IsSendInChannel p channel) sides.sends.items (λ d w. (to_channel c d number channel h is w.0, w.1)) (λ d w. (to_number c d number channel h is w.0, w.1)) are.sends;
         takers = places_as (IsTakerNumbered p numbers number) (IsTakerIn p channel) sides.takers.items (λ d w. (to_channel c d number channel h is w.0, w.1)) (λ d w. (to_number c d number channel h is w.0, w.1)) are.takers;
       }
 
@@ -151,7 +151,7 @@ module _ (p : MpiProgram) (channels : List (Option Channel)) (numbers : List (Op
       record { channel = k.0; are = are_sides w.0 number k.0 sides num k.1 are; differ = apart }
 
   -- one of the calls of a number's sides
-  numbered_place : (number : ℕ) (sides : Imbalance) → AreNumberedSides p numbers number sides → differ sides ≡ true → (c : ℕ) × (slice_get numbers c ≡ Some (Some number)) × IsAmong sides c
+  numbered_place : (number : ℕ) (sides : Imbalance) → AreNumberedSides p numbers number sides → differ sides ≡ true → (c : ℕ) × (slice_get numbers c ≡ Some (Some number)) × IsAmongSides sides c
   numbered_place number sides are on =
       elim (cases_lt 0 (length sides.sends.items)) [
         | inl some ↦
@@ -166,15 +166,15 @@ module _ (p : MpiProgram) (channels : List (Option Channel)) (numbers : List (Op
             (c, (are.takers.sound 0 c at).0, inr (0, at))
       ]
 
-  among_channel : (channel : Channel) (sides : Imbalance) (c : ℕ) → AreSides p channel sides → IsAmong sides c → channel_at p c ≡ Some channel
+  among_channel : (channel : Channel) (sides : Imbalance) (c : ℕ) → AreSides p channel sides → IsAmongSides sides c → channel_at p c ≡ Some channel
   among_channel channel sides c are (inl w) = (are.sends.sound w.0 c w.1).0
   among_channel channel sides c are (inr w) = (are.takers.sound w.0 c w.1).0
 
-  among_number : (number : ℕ) (sides : Imbalance) (c : ℕ) → AreNumberedSides p numbers number sides → IsAmong sides c → slice_get numbers c ≡ Some (Some number)
+  among_number : (number : ℕ) (sides : Imbalance) (c : ℕ) → AreNumberedSides p numbers number sides → IsAmongSides sides c → slice_get numbers c ≡ Some (Some number)
   among_number number sides c are (inl w) = (are.sends.sound w.0 c w.1).0
   among_number number sides c are (inr w) = (are.takers.sound w.0 c w.1).0
 
-  number_among : (number : ℕ) (sides : Imbalance) (c : ℕ) → AreNumberedSides p numbers number sides → slice_get numbers c ≡ Some (Some number) → IsAmong sides c
+  number_among : (number : ℕ) (sides : Imbalance) (c : ℕ) → AreNumberedSides p numbers number sides → slice_get numbers c ≡ Some (Some number) → IsAmongSides sides c
   number_among number sides c are h =
       elim (is_or_not (is_send_at p c)) [
         | inl on ↦ inl (are.sends.all c (h, on))
@@ -195,14 +195,14 @@ module _ (p : MpiProgram) (channels : List (Option Channel)) (numbers : List (Op
       record {
         each = λ i sides at. let w = filter_passes differ table i sides at in is_told w.0 sides (all.each w.0 sides w.1) w.2;
         all = λ channel sends takers are_sends are_takers apart.
-            let w = some_place (IsSendIn p channel) (IsTakerIn p channel) sends takers are_sends are_takers apart in
+            let w = some_place (IsSendInChannel p channel) (IsTakerIn p channel) sends takers are_sends are_takers apart in
             let is : channel_at p w.0 ≡ Some channel = elim w.1 [ inl a ↦ a.0 | inr a ↦ a.0 ] in
             let k = n.named w.0 channel (of_channel w.0 channel is) in
             let below = n.below w.0 k.0 k.1 in
             let s = item_there table k.0 (omega (arith, below, n.size, all.size)) in
             let same = are_sides w.0 k.0 channel s.0 k.1 is (all.each k.0 s.0 s.1) in
-            let sends_upto = places_upto (IsSendIn p channel) sends s.0.sends.items are_sends same.sends in
-            let sends_back = places_upto (IsSendIn p channel) s.0.sends.items sends same.sends are_sends in
+            let sends_upto = places_upto (IsSendInChannel p channel) sends s.0.sends.items are_sends same.sends in
+            let sends_back = places_upto (IsSendInChannel p channel) s.0.sends.items sends same.sends are_sends in
             let takers_upto = places_upto (IsTakerIn p channel) takers s.0.takers.items are_takers same.takers in
             let takers_back = places_upto (IsTakerIn p channel) s.0.takers.items takers same.takers are_takers in
             let on = not_equal (length s.0.sends.items) (length s.0.takers.items) (length s.0.sends.items == length s.0.takers.items) (refl {a = length s.0.sends.items == length s.0.takers.items}) (λ e. apart (omega (arith, e, sends_upto, sends_back, takers_upto, takers_back))) in

@@ -6,7 +6,7 @@ use Rattle.std.proofs.lemmas.Option.{slice_get_within, slice_get-get_or, get_or_
 use Rattle.interning.specs.Places.{AreBelow}
 use Rattle.callorder.specs.Programs.{MpiProgram}
 use Rattle.balance.specs.declared.counting.Imbalance.{Imbalance}
-use Rattle.balance.specs.Balance.{is_send_at, ArePlaces, Rise}
+use Rattle.balance.specs.Balance.{is_send_at, ArePlacesWhere, Rise}
 use Rattle.balance.specs.Sides.{IsSendNumbered, IsTakerNumbered, AreNumberedSides, AreAllSides}
 use Rattle.balance.proofs.Lists.{in_front, at_end, front_or_end, set_here, set_elsewhere}
 
@@ -18,7 +18,7 @@ IsNumbered test numbers number c = (slice_get numbers c ≡ Some (Some number)) 
 same_number : (a b : ℕ) → ◌≡◌ {A = Option ℕ} (Some a) (Some b) → a ≡ b
 same_number a b e = cc
 
-places_more : (test : ℕ → Type 0) (numbers : List (Option ℕ)) (number place : ℕ) (places : List ℕ) → length numbers ≡ place → test place → ArePlaces (IsNumbered test numbers number) places → ArePlaces (IsNumbered test (numbers ++ Some number ∷ []) number) (places ++ place ∷ [])
+places_more : (test : ℕ → Type 0) (numbers : List (Option ℕ)) (number place : ℕ) (places : List ℕ) → length numbers ≡ place → test place → ArePlacesWhere (IsNumbered test numbers number) places → ArePlacesWhere (IsNumbered test (numbers ++ Some number ∷ []) number) (places ++ place ∷ [])
 places_more test numbers number place places size passes are =
     record {
       sound = λ i c at. elim (front_or_end places place c i at) [
@@ -42,7 +42,7 @@ places_more test numbers number place places size passes are =
       ];
     }
 
-places_kept : (test : ℕ → Type 0) (numbers : List (Option ℕ)) (number : ℕ) (o : Option ℕ) (places : List ℕ) → (o ≡ Some number → test (length numbers) → ⊥) → ArePlaces (IsNumbered test numbers number) places → ArePlaces (IsNumbered test (numbers ++ o ∷ []) number) places
+places_kept : (test : ℕ → Type 0) (numbers : List (Option ℕ)) (number : ℕ) (o : Option ℕ) (places : List ℕ) → (o ≡ Some number → test (length numbers) → ⊥) → ArePlacesWhere (IsNumbered test numbers number) places → ArePlacesWhere (IsNumbered test (numbers ++ o ∷ []) number) places
 places_kept test numbers number o places none are =
     record {
       sound = λ i c at. let w = are.sound i c at in (in_front numbers (o ∷ []) c (Some number) w.0, w.1);
@@ -53,7 +53,7 @@ places_kept test numbers number o places none are =
       once = are.once;
     }
 
-rise_more : (test : ℕ → Type 0) (numbers : List (Option ℕ)) (number place : ℕ) (places : List ℕ) → length numbers ≡ place → ArePlaces (IsNumbered test numbers number) places → Rise places → Rise (places ++ place ∷ [])
+rise_more : (test : ℕ → Type 0) (numbers : List (Option ℕ)) (number place : ℕ) (places : List ℕ) → length numbers ≡ place → ArePlacesWhere (IsNumbered test numbers number) places → Rise places → Rise (places ++ place ∷ [])
 rise_more test numbers number place places size are rise i j c d before at later =
     elim (front_or_end places place c i at) [
       | inl a ↦ elim (front_or_end places place d j later) [
@@ -71,9 +71,9 @@ rise_more test numbers number place places size are rise i j c d before at later
 pub send_added : (p : MpiProgram) (numbers : List (Option ℕ)) (number place : ℕ) (old new : Imbalance) → length numbers ≡ place → is_send_at p place ≡ true → AreNumberedSides p numbers number old → new.sends.items ≡ old.sends.items ++ place ∷ [] → new.takers.items ≡ old.takers.items → AreNumberedSides p (numbers ++ Some number ∷ []) number new
 send_added p numbers number place old new size on are sends takers =
     record {
-      sends = subst (ArePlaces (IsSendNumbered p (numbers ++ Some number ∷ []) number)) (sym sends)
+      sends = subst (ArePlacesWhere (IsSendNumbered p (numbers ++ Some number ∷ []) number)) (sym sends)
           (places_more (λ (c : ℕ). is_send_at p c ≡ true) numbers number place old.sends.items size on are.sends);
-      takers = subst (ArePlaces (IsTakerNumbered p (numbers ++ Some number ∷ []) number)) (sym takers)
+      takers = subst (ArePlacesWhere (IsTakerNumbered p (numbers ++ Some number ∷ []) number)) (sym takers)
           (places_kept (λ (c : ℕ). is_send_at p c ≡ false) numbers number (Some number) old.takers.items (λ e off. let f : is_send_at p place ≡ false = ap (is_send_at p) (sym size) ∙ off in cc) are.takers);
       sends_rise = subst Rise (sym sends) (rise_more (λ (c : ℕ). is_send_at p c ≡ true) numbers number place old.sends.items size are.sends are.sends_rise);
       takers_rise = subst Rise (sym takers) are.takers_rise;
@@ -82,9 +82,9 @@ send_added p numbers number place old new size on are sends takers =
 pub taker_added : (p : MpiProgram) (numbers : List (Option ℕ)) (number place : ℕ) (old new : Imbalance) → length numbers ≡ place → is_send_at p place ≡ false → AreNumberedSides p numbers number old → new.sends.items ≡ old.sends.items → new.takers.items ≡ old.takers.items ++ place ∷ [] → AreNumberedSides p (numbers ++ Some number ∷ []) number new
 taker_added p numbers number place old new size off are sends takers =
     record {
-      sends = subst (ArePlaces (IsSendNumbered p (numbers ++ Some number ∷ []) number)) (sym sends)
+      sends = subst (ArePlacesWhere (IsSendNumbered p (numbers ++ Some number ∷ []) number)) (sym sends)
           (places_kept (λ (c : ℕ). is_send_at p c ≡ true) numbers number (Some number) old.sends.items (λ e on. let f : is_send_at p place ≡ true = ap (is_send_at p) (sym size) ∙ on in cc) are.sends);
-      takers = subst (ArePlaces (IsTakerNumbered p (numbers ++ Some number ∷ []) number)) (sym takers)
+      takers = subst (ArePlacesWhere (IsTakerNumbered p (numbers ++ Some number ∷ []) number)) (sym takers)
           (places_more (λ (c : ℕ). is_send_at p c ≡ false) numbers number place old.takers.items size off are.takers);
       sends_rise = subst Rise (sym sends) are.sends_rise;
       takers_rise = subst Rise (sym takers) (rise_more (λ (c : ℕ). is_send_at p c ≡ false) numbers number place old.takers.items size are.takers are.takers_rise);
@@ -104,13 +104,13 @@ other_sides p numbers number o sides other are =
 pub nothing_yet : (p : MpiProgram) (number : ℕ) (sides : Imbalance) → sides.sends.items ≡ [] → sides.takers.items ≡ [] → AreNumberedSides p [] number sides
 nothing_yet p number sides sends takers =
     record {
-      sends = subst (ArePlaces (IsSendNumbered p [] number)) (sym sends) (none (λ (c : ℕ). is_send_at p c ≡ true));
-      takers = subst (ArePlaces (IsTakerNumbered p [] number)) (sym takers) (none (λ (c : ℕ). is_send_at p c ≡ false));
+      sends = subst (ArePlacesWhere (IsSendNumbered p [] number)) (sym sends) (none (λ (c : ℕ). is_send_at p c ≡ true));
+      takers = subst (ArePlacesWhere (IsTakerNumbered p [] number)) (sym takers) (none (λ (c : ℕ). is_send_at p c ≡ false));
       sends_rise = subst Rise (sym sends) (λ i j c d before at later. absurd (cc));
       takers_rise = subst Rise (sym takers) (λ i j c d before at later. absurd (cc));
     }
   where
-    none : (test : ℕ → Type 0) → ArePlaces (IsNumbered test [] number) []
+    none : (test : ℕ → Type 0) → ArePlacesWhere (IsNumbered test [] number) []
     none test = record { sound = λ i c at. absurd (cc); all = λ c h. absurd (let e = h.0 in cc); once = λ i j c at other. absurd (cc) }
 
 front : (numbers : List (Option ℕ)) (place : ℕ) (o : Option ℕ) → slice_get numbers place ≡ Some o → take (place + 1) numbers ≡ take place numbers ++ o ∷ []

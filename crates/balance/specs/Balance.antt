@@ -20,8 +20,8 @@ takes_any_source_as destination communicator rank (Some pattern) =
     rank == destination && pattern.communicator == communicator && is_none pattern.source
 
 -- the call takes messages of any source, to this rank and on this communicator
-abbrev pub takes_any_source : ℕ → ℕ → Call → Bool
-takes_any_source destination communicator call = takes_any_source_as destination communicator call.rank (taken_by call)
+abbrev pub leaves_source_open : ℕ → ℕ → Call → Bool
+leaves_source_open destination communicator call = takes_any_source_as destination communicator call.rank (taken_by call)
 
 abbrev pub takes_any_tag_as : ℕ → ℕ → ℕ → Option Pattern → Bool
 takes_any_tag_as destination communicator rank None = false
@@ -39,7 +39,7 @@ channel_to p destination communicator source tag =
     record {
       destination = destination;
       communicator = communicator;
-      source = if list_any (takes_any_source destination communicator) p.calls then None else source;
+      source = if list_any (leaves_source_open destination communicator) p.calls then None else source;
       tag = if list_any (takes_any_tag destination communicator) p.calls then None else tag;
     }
 
@@ -72,21 +72,21 @@ abbrev pub is_send_at : MpiProgram → ℕ → Bool
 is_send_at p c = is_send_call (call_at p c)
 
 -- These are the places that pass a test, each once.
-pub record ArePlaces (test : ℕ → Type 0) (places : List ℕ) : Type 0 where
+pub record ArePlacesWhere (test : ℕ → Type 0) (places : List ℕ) : Type 0 where
   pub sound : (i c : ℕ) → slice_get places i ≡ Some c → test c
   pub all : (c : ℕ) → test c → (i : ℕ) × (slice_get places i ≡ Some c)
   pub once : (i j c : ℕ) → slice_get places i ≡ Some c → slice_get places j ≡ Some c → i ≡ j
 
-abbrev pub IsSendIn : MpiProgram → Channel → ℕ → Type 0
-IsSendIn p channel c = (channel_at p c ≡ Some channel) × IsTrue (is_send_at p c)
+abbrev pub IsSendInChannel : MpiProgram → Channel → ℕ → Type 0
+IsSendInChannel p channel c = (channel_at p c ≡ Some channel) × IsTrue (is_send_at p c)
 
 abbrev pub IsTakerIn : MpiProgram → Channel → ℕ → Type 0
 IsTakerIn p channel c = (channel_at p c ≡ Some channel) × (is_send_at p c ≡ false)
 
 -- all sends and all takers of one channel
 pub record AreSides (p : MpiProgram) (channel : Channel) (sides : Imbalance) : Type 0 where
-  pub sends : ArePlaces (IsSendIn p channel) sides.sends.items
-  pub takers : ArePlaces (IsTakerIn p channel) sides.takers.items
+  pub sends : ArePlacesWhere (IsSendInChannel p channel) sides.sends.items
+  pub takers : ArePlacesWhere (IsTakerIn p channel) sides.takers.items
 
 -- the sends and the takers of one channel, which differ in number
 pub record IsImbalance (p : MpiProgram) (sides : Imbalance) : Type 0 where
@@ -99,18 +99,18 @@ abbrev pub Rise : List ℕ → Type 0
 Rise places = (i j c d : ℕ) → i < j → slice_get places i ≡ Some c → slice_get places j ≡ Some d → c < d
 
 -- the call at the place is one of these sends and takers
-abbrev pub IsAmong : Imbalance → ℕ → Type 0
-IsAmong sides c = ((i : ℕ) × (slice_get sides.sends.items i ≡ Some c)) ⊎ ((i : ℕ) × (slice_get sides.takers.items i ≡ Some c))
+abbrev pub IsAmongSides : Imbalance → ℕ → Type 0
+IsAmongSides sides c = ((i : ℕ) × (slice_get sides.sends.items i ≡ Some c)) ⊎ ((i : ℕ) × (slice_get sides.takers.items i ≡ Some c))
 
 -- Each channel whose sends and takers differ in number is told once, and no other one; the calls of
 -- each rise, and the channels stand in the order of their first calls: before each call of a
 -- channel is one of each channel that is told before.
 pub record AreImbalances (p : MpiProgram) (told : List Imbalance) : Type 0 where
   pub each : (i : ℕ) (sides : Imbalance) → slice_get told i ≡ Some sides → IsImbalance p sides
-  pub all : (channel : Channel) (sends takers : List ℕ) → ArePlaces (IsSendIn p channel) sends → ArePlaces (IsTakerIn p channel) takers → length sends ≢ length takers
+  pub all : (channel : Channel) (sends takers : List ℕ) → ArePlacesWhere (IsSendInChannel p channel) sends → ArePlacesWhere (IsTakerIn p channel) takers → length sends ≢ length takers
       → (i : ℕ) × (told_sides : Imbalance) × (slice_get told i ≡ Some told_sides) × AreSides p channel told_sides
   pub once : (i j : ℕ) (channel : Channel) (one other : Imbalance) → slice_get told i ≡ Some one → slice_get told j ≡ Some other
       → AreSides p channel one → AreSides p channel other → i ≡ j
   pub rise : (i : ℕ) (sides : Imbalance) → slice_get told i ≡ Some sides → Rise sides.sends.items × Rise sides.takers.items
-  pub in_order : (i j c : ℕ) (first later : Imbalance) → i < j → slice_get told i ≡ Some first → slice_get told j ≡ Some later → IsAmong later c
-      → (earlier : ℕ) × (earlier < c) × IsAmong first earlier
+  pub in_order : (i j c : ℕ) (first later : Imbalance) → i < j → slice_get told i ≡ Some first → slice_get told j ≡ Some later → IsAmongSides later c
+      → (earlier : ℕ) × (earlier < c) × IsAmongSides first earlier

@@ -2,7 +2,7 @@
 use Rattle.std.specs.Prelude.{◌≡◌, ℕ, false, IsTrue, List, length, Option, Some, slice_get}
 use Rattle.callorder.specs.Programs.{MpiProgram}
 use Rattle.balance.specs.declared.counting.Imbalance.{Imbalance}
-use Rattle.balance.specs.Balance.{is_send_at, ArePlaces, Rise}
+use Rattle.balance.specs.Balance.{is_send_at, ArePlacesWhere, Rise}
 
 abbrev pub IsSendNumbered : MpiProgram → List (Option ℕ) → ℕ → ℕ → Type 0
 IsSendNumbered p numbers number c = (slice_get numbers c ≡ Some (Some number)) × IsTrue (is_send_at p c)
@@ -12,8 +12,8 @@ IsTakerNumbered p numbers number c = (slice_get numbers c ≡ Some (Some number)
 
 -- all sends and all other calls that have this number, in rising order
 pub record AreNumberedSides (p : MpiProgram) (numbers : List (Option ℕ)) (number : ℕ) (sides : Imbalance) : Type 0 where
-  pub sends : ArePlaces (IsSendNumbered p numbers number) sides.sends.items
-  pub takers : ArePlaces (IsTakerNumbered p numbers number) sides.takers.items
+  pub sends : ArePlacesWhere (IsSendNumbered p numbers number) sides.sends.items
+  pub takers : ArePlacesWhere (IsTakerNumbered p numbers number) sides.takers.items
   pub sends_rise : Rise sides.sends.items
   pub takers_rise : Rise sides.takers.items
 

@@ -3,7 +3,7 @@
 ghost use Rattle.std.specs.Prelude.{◌≡◌, ◌++◌, ◌∷◌, ℕ, List, [], map, IfOk, length, slice_get, Some, Option};
 ghost use Rattle.callorder.specs.Programs.{MpiProgram};
 ghost use Rattle.balance.specs.Balance.{channel_at, channel_of, channel_to, taken_by};
-ghost use Rattle.balance.specs.parts.Wildcards.{address_of, AreLoose, AreNumbers, IsLoose};
+ghost use Rattle.balance.specs.parts.Wildcards.{channel_address_of, AreWild, AreNumbersOfNames, IsWild};
 
 use callorder::{Call, LongProgram, Pattern};
 use interning::number;
@@ -50,7 +50,7 @@ fn taken_by(call: &Call) -> Option<Pattern>
 
 /// The address of a send's message, or of a taker.
 fn address_of(call: &Call) -> Option<Address>
-    ensures { result ≡ address_of call.now }
+    ensures { result ≡ channel_address_of call.now }
 {
     if let Some(message) = call.kind.message() {
         return Some(Address {
@@ -69,7 +69,7 @@ fn address_of(call: &Call) -> Option<Address>
 
 /// The address of each call.
 fn addresses_of(alloc: Global, calls: &[Call]) -> Result<Vec<Option<Address>>, AllocError>
-    ensures { IfOk result (λ addresses. addresses.items ≡ map address_of calls.now) }
+    ensures { IfOk result (λ addresses. addresses.items ≡ map channel_address_of calls.now) }
 {
     calls.iter().map(address_of).collect(alloc)
 }
@@ -79,15 +79,15 @@ fn numbers_of(
     alloc: Global,
     addresses: Vec<Option<Address>>,
 ) -> Result<Vec<Option<usize>>, AllocError>
-    ensures { IfOk result (λ numbers. AreNumbers addresses.items numbers.items) }
+    ensures { IfOk result (λ numbers. AreNumbersOfNames addresses.items numbers.items) }
 {
     number(alloc, addresses)
 }
 
 /// What calls at an address leave open, after one more call there.
 fn loosened(loose: Loose, call: &Call) -> Loose
-    ensures { (calls : List Call) (address : Address) → address_of call.now ≡ Some address →
-        IsLoose calls address loose → IsLoose (calls ++ call.now ∷ []) address result }
+    ensures { (calls : List Call) (address : Address) → channel_address_of call.now ≡ Some address →
+        IsWild calls address loose → IsWild (calls ++ call.now ∷ []) address result }
 {
     match taken_by(call) {
         None => loose,
@@ -104,8 +104,8 @@ fn loose_of(
     calls: &[Call],
     numbers: &[Option<usize>],
 ) -> Result<Vec<Loose>, AllocError>
-    requires { AreNumbers (map address_of calls.now) numbers.now }
-    ensures { IfOk result (λ table. AreLoose calls.now (map address_of calls.now) numbers.now table.items) }
+    requires { AreNumbersOfNames (map channel_address_of calls.now) numbers.now }
+    ensures { IfOk result (λ table. AreWild calls.now (map channel_address_of calls.now) numbers.now table.items) }
 {
     let bound = Loose {
         source: false,
@@ -122,7 +122,7 @@ fn loose_of(
 
 /// The channel at an address where takers leave this open.
 fn channel_to(address: Address, loose: Loose, source: Option<u32>, tag: Option<u32>) -> Channel
-    ensures { (p : MpiProgram) → IsLoose p.calls address loose → result ≡ channel_to p address.destination address.communicator source tag }
+    ensures { (p : MpiProgram) → IsWild p.calls address loose → result ≡ channel_to p address.destination address.communicator source tag }
 {
     Channel {
         destination: address.destination,
@@ -134,8 +134,8 @@ fn channel_to(address: Address, loose: Loose, source: Option<u32>, tag: Option<u
 
 /// The channel of a send or a taker, at an address where takers leave this open.
 fn channel_in(call: &Call, loose: Loose) -> Option<Channel>
-    ensures { (p : MpiProgram) (address : Address) → address_of call.now ≡ Some address →
-        IsLoose p.calls address loose → result ≡ channel_of p call.now }
+    ensures { (p : MpiProgram) (address : Address) → channel_address_of call.now ≡ Some address →
+        IsWild p.calls address loose → result ≡ channel_of p call.now }
 {
     let address = address_of(call)?;
     match call.kind.message() {

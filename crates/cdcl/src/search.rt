@@ -1,7 +1,7 @@
 //! The search itself.
 
 ghost use Rattle.std.specs.Prelude.{◌≤◌};
-ghost use Rattle.cdcl.specs.parts.Searches.{IfEnded, IsCounted, IsNotBudget, IsRight};
+ghost use Rattle.cdcl.specs.parts.Searches.{IfEnded, IsBudgetSpent, IsNotBudget, IsRight};
 
 use crate::analysis::{Learnt, analyse, analyse_cube, analyse_root};
 use crate::engine::Engine;
@@ -313,7 +313,7 @@ impl Engine {
         batch: &mut Batch,
     ) -> Counted
         ensures most { result.conflicts ≤ budget }
-        ensures exact { IsCounted budget result.conflicts result.ending }
+        ensures exact { IsBudgetSpent budget result.conflicts result.ending }
         ensures right { IsRight formula.now cube.now result.ending }
     {
         for before in 0..budget {
@@ -351,7 +351,7 @@ impl Engine {
         batch: &mut Batch,
     ) -> Counted
         ensures most { result.conflicts ≤ budget }
-        ensures exact { IsCounted budget result.conflicts result.ending }
+        ensures exact { IsBudgetSpent budget result.conflicts result.ending }
         ensures right { IsRight formula.now cube.now result.ending }
     {
         match self.begin_with(alloc, cube) {

@@ -3,7 +3,7 @@
 ghost use Rattle.std.specs.Prelude.{◌≡◌, IfOk};
 ghost use Rattle.std.specs.List.{list_any};
 ghost use Rattle.clauses.specs.Clauses.{is_within};
-ghost use Rattle.cdcl.specs.Answers.{are_opposite, has_both, is_foreign, Searched, Imported, Started};
+ghost use Rattle.cdcl.specs.Answers.{are_opposite_in_order, has_both, is_foreign, Searched, Imported, Started};
 
 use crate::engine::Engine;
 use crate::search::{Counted, Ending};
@@ -60,14 +60,14 @@ impl<'f> Model for Solver<'f> {
 
 /// Whether the second is the negation of the first, which is positive.
 fn are_opposite(one: &Lit, other: &Lit) -> bool
-    ensures { result ≡ are_opposite one.now other.now }
+    ensures { result ≡ are_opposite_in_order one.now other.now }
 {
     one.is_positive() && !other.is_positive() && one.variable() == other.variable()
 }
 
 /// Whether some literal of the cube is the negation of this one, which is positive.
 fn has_negation(cube: &[Lit], literal: &Lit) -> bool
-    ensures { result ≡ list_any (are_opposite literal.now) cube.now }
+    ensures { result ≡ list_any (are_opposite_in_order literal.now) cube.now }
 {
     cube.iter().any(|other| are_opposite(literal, other))
 }

@@ -18,8 +18,8 @@ use Rattle.scene.specs.Labels.{Label}
 use Rattle.charts.specs.declared.placing.Placed.{Placed}
 use Rattle.charts.specs.declared.placing.Shared.{Shared}
 use Rattle.charts.specs.declared.placing.Row.{Row}
-use Rattle.charts.specs.Columns.{AreInOrder, AreWaitsOfOneLine, KeepsOrder, column_from, column_if, column_of, is_wait, line_if, wait_line}
-use Rattle.charts.specs.parts.Placing.{ArePlaced, IsFind, IsIssuedBefore, IsKnown, IsKnownStep, IsPast, IsRaised, IsRow, column_in, empty_row, fresh_row, raised, row_at, row_behind, row_if, shared_by}
+use Rattle.charts.specs.Columns.{ArePlacedInOrder, AreWaitsOfOneLine, KeepsOrder, column_from, column_if, column_of, is_wait, line_if, wait_line}
+use Rattle.charts.specs.parts.Placing.{ArePlaced, IsFindAct, IsIssuedBeforeInRow, IsKnown, IsKnownStep, IsPast, HasRaisedRow, SharesNoFreeColumn, column_in, empty_row, fresh_row, raised, row_at, row_behind, row_if, shared_by}
 
 -- ---- one more issue, or none
 
@@ -32,10 +32,10 @@ column_push c so_far (y ∷ ys) x = column_push c (column_if c so_far y.column y
 -- the call is issued in column v of a row, behind which it is another one
 record IsNext (p : MpiProgram) (calls : List Label) (row : Row) (c v : ℕ) (behind : Row) : Type 0 where
   grown : row.free ≤ behind.free
-  own : IsIssuedBefore p calls behind c v
-  is_row : IsRow behind
-  later : (e u : ℕ) → IsIssuedBefore p calls row e u → (u < v) ⊎ ((u ≡ v) × AreWaitsOfOneLine p calls e c)
-  kept : (e u : ℕ) → IsIssuedBefore p calls row e u → IsIssuedBefore p calls behind e u
+  own : IsIssuedBeforeInRow p calls behind c v
+  is_row : SharesNoFreeColumn behind
+  later : (e u : ℕ) → IsIssuedBeforeInRow p calls row e u → (u < v) ⊎ ((u ≡ v) × AreWaitsOfOneLine p calls e c)
+  kept : (e u : ℕ) → IsIssuedBeforeInRow p calls row e u → IsIssuedBeforeInRow p calls behind e u
   past : (u : ℕ) → u < row.free → (u < v) ⊎ IsTrue (is_wait p c)
 
 line_wait : (b : Bool) (told : Option Label) (line : ℕ) → line_if b told ≡ Some line → b ≡ true
@@ -70,7 +70,7 @@ fresh_next p calls row c (Some line) is =
       past = λ u h. inl h;
     }
 
-shared_next : (p : MpiProgram) (calls : List Label) (row : Row) (c line : ℕ) (shared : Shared) → row.waits ≡ Some shared → IsRow row → wait_line p calls c ≡ Some line → shared.line ≡ line → IsNext p calls row c shared.column row
+shared_next : (p : MpiProgram) (calls : List Label) (row : Row) (c line : ℕ) (shared : Shared) → row.waits ≡ Some shared → SharesNoFreeColumn row → wait_line p calls c ≡ Some line → shared.line ≡ line → IsNext p calls row c shared.column row
 shared_next p calls row c line shared there ok is line_is =
     record {
       grown = omega arith;
@@ -90,7 +90,7 @@ shared_next p calls row c line shared there ok is line_is =
       past = λ u h. inr (line_wait (is_wait p c) (slice_get calls c) line is);
     }
 
-next_by : (p : MpiProgram) (calls : List Label) (row : Row) (c : ℕ) (line : Option ℕ) (waits : Option Shared) → IsRow row → wait_line p calls c ≡ line → row.waits ≡ waits → IsNext p calls row c (unwrap_or (shared_by line waits) row.free) (row_if (shared_by line waits) (fresh_row row line) row)
+next_by : (p : MpiProgram) (calls : List Label) (row : Row) (c : ℕ) (line : Option ℕ) (waits : Option Shared) → SharesNoFreeColumn row → wait_line p calls c ≡ line → row.waits ≡ waits → IsNext p calls row c (unwrap_or (shared_by line waits) row.free) (row_if (shared_by line waits) (fresh_row row line) row)
 next_by p calls row c None waits ok is there = fresh_next p calls row c None is
 next_by p calls row c (Some line) None ok is there = fresh_next p calls row c (Some line) is
 next_by p calls row c (Some line) (Some shared) ok is there = by_line (shared.line == line) refl
@@ -99,7 +99,7 @@ next_by p calls row c (Some line) (Some shared) ok is there = by_line (shared.li
     by_line true e = shared_next p calls row c line shared there ok is (eqb-true shared.line line e)
     by_line false e = fresh_next p calls row c (Some line) is
 
-next : (p : MpiProgram) (calls : List Label) (row : Row) (c : ℕ) → IsRow row → IsNext p calls row c (column_in row (wait_line p calls c)) (row_behind row (wait_line p calls c))
+next : (p : MpiProgram) (calls : List Label) (row : Row) (c : ℕ) → SharesNoFreeColumn row → IsNext p calls row c (column_in row (wait_line p calls c)) (row_behind row (wait_line p calls c))
 next p calls row c ok = next_by p calls row c (wait_line p calls c) row.waits ok refl refl
 
 -- ---- rows of which one is set
@@ -127,7 +127,7 @@ still_past p calls rows c v call behind rank_in next u s past k ke =
 -- a step that was known is known behind the issue
 still_known : (p : MpiProgram) (calls : List Label) (rows : List Row) (issues : List ℕ) (c v : ℕ) (call : Call) (behind : Row) → call.rank < length rows → c < length issues → call_at p c ≡ Some call → IsNext p calls (row_at rows call.rank) c v behind → (u : ℕ) (act : Act) → IsKnown p calls rows issues u act → IsKnown p calls (slice_set rows call.rank behind) (slice_set issues c v) u act
 still_known p calls rows issues c v call behind rank_in c_in is next u (Issue e b) known = (
-  λ k ke. at_row (λ (row : Row). IsIssuedBefore p calls row e u) rows call.rank k.rank behind rank_in (λ same. next.kept e u (subst (λ (z : ℕ). IsIssuedBefore p calls (row_at rows z) e u) same (known.0 k ke))) (known.0 k ke),
+  λ k ke. at_row (λ (row : Row). IsIssuedBeforeInRow p calls row e u) rows call.rank k.rank behind rank_in (λ same. next.kept e u (subst (λ (z : ℕ). IsIssuedBeforeInRow p calls (row_at rows z) e u) same (known.0 k ke))) (known.0 k ke),
   elim (cases_eq e c) [
     | inl same ↦
         let there : slice_index (slice_set issues c v) e ≡ v = ap (λ (z : ℕ). slice_index (slice_set issues c v) z) same ∙ get_or-set_same issues c v 0 c_in in
@@ -152,7 +152,7 @@ issue_order : (p : MpiProgram) (calls : List Label) (rows : List Row) (issues : 
 issue_order p calls rows issues c v b call behind is next u (Issue e f) known =
     λ one.
     let it = one_rank (call_at p e) (call_at p c) call is one in
-    next.later e u (subst (λ (z : ℕ). IsIssuedBefore p calls (row_at rows z) e u) it.2 (known.0 it.0 it.1))
+    next.later e u (subst (λ (z : ℕ). IsIssuedBeforeInRow p calls (row_at rows z) e u) it.2 (known.0 it.0 it.1))
 issue_order p calls rows issues c v b call behind is next u (Match s t) known =
     λ either. elim (or_cases (are_of_one_rank p s c) (are_of_one_rank p t c) either) [
       | inl one ↦ next.past u (passed p rows c s u call is known.0 one)
@@ -182,15 +182,15 @@ with_next p calls rows issues count steps c v b call behind more rank_in c_in is
       program = old.program;
       all_rows = length-set rows call.rank behind ∙ old.all_rows;
       all_issues = length-set issues c v ∙ old.all_issues;
-      each_row = λ q. at_row IsRow rows call.rank q behind rank_in (λ same. next.is_row) (old.each_row q);
+      each_row = λ q. at_row SharesNoFreeColumn rows call.rank q behind rank_in (λ same. next.is_row) (old.each_row q);
       known =
           All-push known_then steps x (All-weaker (IsKnownStep p calls rows issues) known_then (λ y h. still_known p calls rows issues c v call behind rank_in c_in is next y.column y.act h) steps old.known) (
-            λ k ke. subst (λ (z : Call). IsIssuedBefore p calls (row_at (slice_set rows call.rank behind) z.rank) c v) (same_Some call k (sym is ∙ ke)) (subst (λ (row : Row). IsIssuedBefore p calls row c v) (sym (get_or-set_same rows call.rank behind empty_row rank_in)) next.own),
+            λ k ke. subst (λ (z : Call). IsIssuedBeforeInRow p calls (row_at (slice_set rows call.rank behind) z.rank) c v) (same_Some call k (sym is ∙ ke)) (subst (λ (row : Row). IsIssuedBeforeInRow p calls row c v) (sym (get_or-set_same rows call.rank behind empty_row rank_in)) next.own),
             omega (arith, get_or-set_same issues c v 0 c_in),
           );
       issued = issue_issued issues steps c v b c_in old.issued;
       within = All-push (λ (step : Placed). step.column < more) steps x (All-weaker (λ (step : Placed). step.column < count) (λ (step : Placed). step.column < more) (λ y h. omega (arith, h, fewer)) steps old.within) left;
-      order = all_pairs_push (AreInOrder p calls) steps x old.order (λ k d k_in. issue_order p calls rows issues c v b call behind is next (get_or steps k d).column (get_or steps k d).act (old.known k d k_in));
+      order = all_pairs_push (ArePlacedInOrder p calls) steps x old.order (λ k d k_in. issue_order p calls rows issues c v b call behind is next (get_or steps k d).column (get_or steps k d).act (old.known k d k_in));
     }
 
 -- one more issue
@@ -210,7 +210,7 @@ raised_free : (row : Row) (v : ℕ) → (row.free ≤ (raised row v).free) × (v
 raised_free row v =
     cond_both (nat_lt v row.free) row.free (v + 1) (λ z. (row.free ≤ z) × (v < z)) (λ e. (omega arith, ltb-true v row.free e)) (λ e. (let upto : row.free ≤ v = ltb-false v row.free e in omega (arith, upto), omega arith))
 
-raise_grown : (p : MpiProgram) (c v : ℕ) (old new : List Row) → IsProgramWithin long p → length old ≡ p.ranks → IsRaised p c v old new → AreGrown old new × IsPast p new c v
+raise_grown : (p : MpiProgram) (c v : ℕ) (old new : List Row) → IsProgramWithin long p → length old ≡ p.ranks → HasRaisedRow p c v old new → AreGrown old new × IsPast p new c v
 raise_grown p c v old new kept many raise =
     let r = raise.call.rank in
     let within : r < length old = omega (arith, many, (kept.in_range c raise.call raise.is_call).own) in
@@ -243,12 +243,12 @@ grown_known p calls old new issues grown u (Issue e b) known = (
 grown_known p calls old new issues grown u (Match s t) known = (grown_past p old new grown s u known.0, grown_past p old new grown t u known.1)
 grown_known p calls old new issues grown u (See s t) known = (grown_past p old new grown s u known.0, grown_past p old new grown t u known.1)
 
-find_known : (p : MpiProgram) (calls : List Label) (rows : List Row) (issues : List ℕ) (s f v : ℕ) (act : Act) → IsFind s f act → IsPast p rows s v → IsPast p rows f v → IsKnown p calls rows issues v act
+find_known : (p : MpiProgram) (calls : List Label) (rows : List Row) (issues : List ℕ) (s f v : ℕ) (act : Act) → IsFindAct s f act → IsPast p rows s v → IsPast p rows f v → IsKnown p calls rows issues v act
 find_known p calls rows issues s f v (Issue c b) is one other = absurd is
 find_known p calls rows issues s f v (Match a b) is one other = (subst (λ (z : ℕ). IsPast p rows z v) (sym is.0) one, subst (λ (z : ℕ). IsPast p rows z v) (sym is.1) other)
 find_known p calls rows issues s f v (See a b) is one other = (subst (λ (z : ℕ). IsPast p rows z v) (sym is.0) one, subst (λ (z : ℕ). IsPast p rows z v) (sym is.1) other)
 
-find_column : (s f d so_far v : ℕ) (act : Act) → IsFind s f act → column_if d so_far v act ≡ so_far
+find_column : (s f d so_far v : ℕ) (act : Act) → IsFindAct s f act → column_if d so_far v act ≡ so_far
 find_column s f d so_far v (Issue c b) is = absurd is
 find_column s f d so_far v (Match a b) is = refl
 find_column s f d so_far v (See a b) is = refl
@@ -261,7 +261,7 @@ upto_find issues s f v a b e u one other is upto either =
       | inr same ↦ let there : slice_index issues e ≡ slice_index issues f = ap (λ (z : ℕ). slice_index issues z) (same ∙ is.1) in omega (arith, there, other, upto)
     ]
 
-find_order : (p : MpiProgram) (calls : List Label) (rows : List Row) (issues : List ℕ) (s f v : ℕ) → slice_index issues s ≤ v → slice_index issues f ≤ v → (act : Act) → IsFind s f act → (u : ℕ) (early : Act) → IsKnown p calls rows issues u early → KeepsOrder p calls early u act v
+find_order : (p : MpiProgram) (calls : List Label) (rows : List Row) (issues : List ℕ) (s f v : ℕ) → slice_index issues s ≤ v → slice_index issues f ≤ v → (act : Act) → IsFindAct s f act → (u : ℕ) (early : Act) → IsKnown p calls rows issues u early → KeepsOrder p calls early u act v
 find_order p calls rows issues s f v one other (Issue c b) is u early known = absurd is
 find_order p calls rows issues s f v one other (Match a b) is u (Issue e x) known = upto_find issues s f v a b e u one other is known.1
 find_order p calls rows issues s f v one other (Match a b) is u (Match e x) known = tt
@@ -271,7 +271,7 @@ find_order p calls rows issues s f v one other (See a b) is u (Match e x) known 
 find_order p calls rows issues s f v one other (See a b) is u (See e x) known = tt
 
 -- one more message that is found
-pub find_placed : (p : MpiProgram) (calls : List Label) (rows mid new : List Row) (issues : List ℕ) (count : ℕ) (steps : List Placed) (s f v : ℕ) (act : Act) (more : ℕ) → IsFind s f act → slice_index issues s ≤ v → slice_index issues f ≤ v → IsRaised p s v rows mid → IsRaised p f v mid new → ArePlaced p calls rows issues count steps → v < more → count ≤ more → ArePlaced p calls new issues more (steps ++ record { act = act; column = v } ∷ [])
+pub find_placed : (p : MpiProgram) (calls : List Label) (rows mid new : List Row) (issues : List ℕ) (count : ℕ) (steps : List Placed) (s f v : ℕ) (act : Act) (more : ℕ) → IsFindAct s f act → slice_index issues s ≤ v → slice_index issues f ≤ v → HasRaisedRow p s v rows mid → HasRaisedRow p f v mid new → ArePlaced p calls rows issues count steps → v < more → count ≤ more → ArePlaced p calls new issues more (steps ++ record { act = act; column = v } ∷ [])
 find_placed p calls rows mid new issues count steps s f v act more is one other first second old left fewer =
     let up = raise_grown p s v rows mid old.program old.all_rows first in
     let high = raise_grown p f v mid new old.program (up.0.many ∙ old.all_rows) second in
@@ -286,7 +286,7 @@ find_placed p calls rows mid new issues count steps s f v act more is one other 
           All-push (IsKnownStep p calls new issues) steps x (All-weaker (IsKnownStep p calls rows issues) (IsKnownStep p calls new issues) (λ y h. grown_known p calls rows new issues grown y.column y.act h) steps old.known) (find_known p calls new issues s f v act is (grown_past p mid new high.0 s v up.1) high.1);
       issued = λ d. old.issued d ∙ sym (column_push d 0 steps x ∙ find_column s f d (column_of steps d) v act is);
       within = All-push (λ (step : Placed). step.column < more) steps x (All-weaker (λ (step : Placed). step.column < count) (λ (step : Placed). step.column < more) (λ y h. omega (arith, h, fewer)) steps old.within) left;
-      order = all_pairs_push (AreInOrder p calls) steps x old.order (λ k d k_in. find_order p calls rows issues s f v one other act is (get_or steps k d).column (get_or steps k d).act (old.known k d k_in));
+      order = all_pairs_push (ArePlacedInOrder p calls) steps x old.order (λ k d k_in. find_order p calls rows issues s f v one other act is (get_or steps k d).column (get_or steps k d).act (old.known k d k_in));
     }
 
 -- ---- equal tables
@@ -314,7 +314,7 @@ none_placed p calls rows issues kept rows_are issues_are =
       program = kept;
       all_rows = length-replicate p.ranks empty_row;
       all_issues = length-replicate (length p.calls) 0;
-      each_row = λ q. subst IsRow (sym (at_same p.ranks q empty_row)) (λ shared e. absurd (false≢true (ap is_some e)));
+      each_row = λ q. subst SharesNoFreeColumn (sym (at_same p.ranks q empty_row)) (λ shared e. absurd (false≢true (ap is_some e)));
       known = All-nil (IsKnownStep p calls (replicate p.ranks empty_row) (replicate (length p.calls) 0));
       issued = λ c. at_same (length p.calls) c 0;
       within = All-nil (λ (step : Placed). step.column < 0);

@@ -107,10 +107,10 @@ find_row_of ranks (Some send) link stroke (Some finder) = find_row ranks send li
 -- ---- all rows
 
 -- the row of a step: a match has a stroke of `-`, a see one of `.`
-abbrev pub row_of : ℕ → List Label → Act → List ℕ
-row_of ranks calls (Issue c buffered) = issue_row_of ranks (slice_get calls c) buffered
-row_of ranks calls (Match s t) = find_row_of ranks (slice_get calls s) (codes " -> line ") 45 (slice_get calls t)
-row_of ranks calls (See s f) = find_row_of ranks (slice_get calls s) (codes " seen by line ") 46 (slice_get calls f)
+abbrev pub step_row : ℕ → List Label → Act → List ℕ
+step_row ranks calls (Issue c buffered) = issue_row_of ranks (slice_get calls c) buffered
+step_row ranks calls (Match s t) = find_row_of ranks (slice_get calls s) (codes " -> line ") 45 (slice_get calls t)
+step_row ranks calls (See s f) = find_row_of ranks (slice_get calls s) (codes " seen by line ") 46 (slice_get calls f)
 
 -- where a rank stands at the end
 abbrev pub end_word : Bool → List ℕ
@@ -126,7 +126,7 @@ end_row p m = columns (end_cell p m) p.ranks ++ codes "\n"
 -- how many steps come before, and a row for each of the others, in order
 abbrev pub rows_of : MpiProgram → List Label → List Act → List ℕ
 rows_of p calls acts =
-    undrawn_line (undrawn p (length acts)) ++ flat_map (row_of p.ranks calls) (drop (undrawn p (length acts)) acts)
+    undrawn_line (undrawn p (length acts)) ++ flat_map (step_row p.ranks calls) (drop (undrawn p (length acts)) acts)
 
 -- the heading, a row for each step that is drawn, and the row of where each rank stands at the end
 abbrev pub chart_of : List ℕ → ProgramText → MpiProgram → List Step → List ℕ

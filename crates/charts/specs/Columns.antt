@@ -46,8 +46,8 @@ KeepsOrder p calls (Match s t) u (See q r) v = Unit {0}
 KeepsOrder p calls (See s f) u (Match q r) v = Unit {0}
 KeepsOrder p calls (See s f) u (See q r) v = Unit {0}
 
-abbrev pub AreInOrder : MpiProgram → List Label → Placed → Placed → Type 0
-AreInOrder p calls one other = KeepsOrder p calls one.act one.column other.act other.column
+abbrev pub ArePlacedInOrder : MpiProgram → List Label → Placed → Placed → Type 0
+ArePlacedInOrder p calls one other = KeepsOrder p calls one.act one.column other.act other.column
 
 -- These steps stand in so many columns, each in one. A reader may rely on it that a box further
 -- right is a later call of its rank, and that what an arrow points to was issued no later than the
@@ -56,7 +56,7 @@ AreInOrder p calls one other = KeepsOrder p calls one.act one.column other.act o
 pub record AreColumns (p : MpiProgram) (calls : List Label) (acts : List Act) (count : ℕ) (steps : List Placed) : Type 0 where
   pub each : map (λ (step : Placed). step.act) steps ≡ acts
   pub within : All (λ (step : Placed). step.column < count) steps
-  pub order : AllPairs (AreInOrder p calls) steps
+  pub order : AllPairs (ArePlacedInOrder p calls) steps
 
 -- ---- where a call is issued
 

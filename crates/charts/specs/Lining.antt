@@ -20,9 +20,9 @@ abbrev pub place_words : Option Label → List ℕ
 place_words None = []
 place_words (Some told) = told_place told
 
-abbrev pub call_words : Option Label → List ℕ
-call_words None = []
-call_words (Some told) = told.words
+abbrev pub label_words : Option Label → List ℕ
+label_words None = []
+label_words (Some told) = told.words
 
 -- what stands behind the words of a call that is issued as a buffered send, or not so
 abbrev pub how_issued : Bool → List ℕ
@@ -31,7 +31,7 @@ how_issued true = codes " (buffered)"
 
 -- `rank R line L: WORDS`, with ` (buffered)` behind it where the step buffers a send
 abbrev pub issue_line : Option Label → Bool → List ℕ
-issue_line told buffered = place_words told ++ (codes ": " ++ (call_words told ++ (how_issued buffered ++ codes "\n")))
+issue_line told buffered = place_words told ++ (codes ": " ++ (label_words told ++ (how_issued buffered ++ codes "\n")))
 
 -- `message of rank R line L`, what becomes of it, and `rank R line L`
 abbrev pub find_line : Option Label → List ℕ → Option Label → List ℕ

@@ -88,16 +88,16 @@ abbrev pub verb : List ℕ → List ℕ
 verb words = take_while (λ b. not (b == 32)) words
 
 -- what stands in a call's box: its line, and where columns are wide its verb, cut to 10 characters
-abbrev pub mark_of : ℕ → Label → List ℕ
-mark_of count told = if nat_le count 14 then shortened 10 (numeral told.line ++ (codes " " ++ verb told.words)) else numeral told.line
+abbrev pub box_mark : ℕ → Label → List ℕ
+box_mark count told = if nat_le count 14 then shortened 10 (numeral told.line ++ (codes " " ++ verb told.words)) else numeral told.line
 
 abbrev pub is_left_call : MpiProgram → Configuration → ℕ → Option Call → Bool
 is_left_call p m c None = false
 is_left_call p m c (Some call) = is_some (message_of call.kind) && not (is_fetched p m c)
 
 -- the call is a send whose message is not received in the configuration
-abbrev pub is_left : MpiProgram → Configuration → ℕ → Bool
-is_left p m c = is_left_call p m c (call_at p c)
+abbrev pub is_left_send : MpiProgram → Configuration → ℕ → Bool
+is_left_send p m c = is_left_call p m c (call_at p c)
 
 -- a red stub at a message that is never received
 abbrev pub stub : Bool → List ℕ
@@ -117,7 +117,7 @@ box count colour mark =
 
 abbrev pub drawn_issue : ℕ → ℕ → ℕ → Label → List ℕ → Bool → List ℕ
 drawn_issue ranks count column told colour left =
-    box_head ranks count column told.rank ++ (title told ++ (box count colour (mark_of count told) ++ (stub left ++ codes "</g>\n")))
+    box_head ranks count column told.rank ++ (title told ++ (box count colour (box_mark count told) ++ (stub left ++ codes "</g>\n")))
 
 -- nothing where the call is missing, as of no run
 abbrev pub drawn_issue_of : ℕ → ℕ → ℕ → Option Label → List ℕ → Bool → List ℕ
@@ -126,7 +126,7 @@ drawn_issue_of ranks count column (Some told) colour left = drawn_issue ranks co
 
 -- the box of a step of a run that ends in this configuration, where it is an issue
 abbrev pub drawn_box : MpiProgram → Configuration → List Label → ℕ → ℕ → Act → List ℕ
-drawn_box p m calls count column (Issue c buffered) = drawn_issue_of p.ranks count column (slice_get calls c) (colour_of_call (call_at p c) buffered) (is_left p m c)
+drawn_box p m calls count column (Issue c buffered) = drawn_issue_of p.ranks count column (slice_get calls c) (colour_of_call (call_at p c) buffered) (is_left_send p m c)
 drawn_box p m calls count column (Match s t) = []
 drawn_box p m calls count column (See s f) = []
 
@@ -136,9 +136,9 @@ box_of p m calls count step = drawn_box p m calls count step.column step.act
 -- ---- the arrow of a message that is taken or seen
 
 -- what a viewer says of a message that is taken, or seen
-abbrev pub link_of : Bool → List ℕ
-link_of false = codes " -&gt; "
-link_of true = codes " seen by "
+abbrev pub find_link : Bool → List ℕ
+find_link false = codes " -&gt; "
+find_link true = codes " seen by "
 
 -- a match has a full line, and a see a dashed one
 abbrev pub dash_of : Bool → List ℕ
@@ -167,7 +167,7 @@ way ranks from to from_x to_x =
 
 -- what a viewer says of a message that a call finds
 abbrev pub find_title : Label → Bool → Label → List ℕ
-find_title send sees finder = codes "<g class=\"step\"><title>" ++ (told_words send ++ (link_of sees ++ (told_words finder ++ codes "</title><path d=\"")))
+find_title send sees finder = codes "<g class=\"step\"><title>" ++ (told_words send ++ (find_link sees ++ (told_words finder ++ codes "</title><path d=\"")))
 
 abbrev pub drawn_find : ℕ → ℕ → ℕ → Bool → Label → Bool → Label → List ℕ
 drawn_find ranks from_x to_x chosen send sees finder =
@@ -239,8 +239,8 @@ rank_end p m calls count at rank =
 abbrev pub row_head : ℕ → ℕ → List ℕ
 row_head ranks rank = codes "<g class=\"rank\" transform=\"translate(0," ++ (numeral (y_of ranks rank + 24) ++ codes ")\">")
 
-abbrev pub row : MpiProgram → Configuration → List Label → ℕ → (ℕ → ℕ) → List ℕ → ℕ → List ℕ
-row p m calls count at cycle rank =
+abbrev pub rank_row : MpiProgram → Configuration → List Label → ℕ → (ℕ → ℕ) → List ℕ → ℕ → List ℕ
+rank_row p m calls count at cycle rank =
     row_head p.ranks rank ++ (rank_end p m calls count at rank ++ name (is_in cycle rank) rank)
 
 -- ---- the cycle
@@ -292,7 +292,7 @@ top well ranks count = head well (edge count + 460) (y_of ranks ranks + 20)
 abbrev pub picture_at : Bool → MpiProgram → Configuration → List Label → ℕ → (ℕ → ℕ) → List Placed → List ℕ → List Bool → ℕ → List ℕ
 picture_at well p m calls count at steps cycle marks before =
     top well p.ranks count
-    ++ (undrawn_text before ++ (columns (row p m calls count at cycle) p.ranks ++ (flat_map (box_of p m calls count) steps ++ (flat_map (arrow_of p.ranks calls count at marks) steps ++ (columns (arc_at p.ranks count cycle) (length cycle) ++ codes "</svg>\n")))))
+    ++ (undrawn_text before ++ (columns (rank_row p m calls count at cycle) p.ranks ++ (flat_map (box_of p m calls count) steps ++ (flat_map (arrow_of p.ranks calls count at marks) steps ++ (columns (arc_at p.ranks count cycle) (length cycle) ++ codes "</svg>\n")))))
 
 abbrev pub picture_with : Bool → MpiProgram → Configuration → List Label → ℕ → List Placed → List ℕ → List Bool → ℕ → List ℕ
 picture_with well p m calls count steps cycle marks before = picture_at well p m calls count (column_of steps) steps cycle marks before

@@ -4,7 +4,7 @@ ghost use Rattle.std.specs.Prelude.{◌≡◌, ◌++◌, ◌-◌, IfOk, OnOk, re
 ghost use Rattle.std.specs.List.{flat_map};
 ghost use Rattle.plaintext.specs.Plain.{numeral};
 ghost use Rattle.semantics.specs.Machine.{IsStuckRun};
-ghost use Rattle.charts.specs.Chart.{are_narrow, chart_of, columns, end_cell, end_row, end_word, find_cell, find_fill, find_mark, find_note, find_row, find_row_of, heading, heading_cell, heading_word, is_crossed, issue_cell, issue_mark, issue_row, issue_row_of, letter_of, padded, row_of, rows_of, sign_of, width_at};
+ghost use Rattle.charts.specs.Chart.{are_narrow, chart_of, columns, end_cell, end_row, end_word, find_cell, find_fill, find_mark, find_note, find_row, find_row_of, heading, heading_cell, heading_word, is_crossed, issue_cell, issue_mark, issue_row, issue_row_of, letter_of, padded, step_row, rows_of, sign_of, width_at};
 
 use crate::cutting::{put_undrawn_line, undrawn};
 use callorder::LongProgram;
@@ -339,7 +339,7 @@ fn put_row(
     calls: &[CallLabel],
     act: Act,
 ) -> Result<(), AllocError>
-    ensures { OnOk result (out.new.items ≡ out.old.items ++ row_of ranks calls.now act) }
+    ensures { OnOk result (out.new.items ≡ out.old.items ++ step_row ranks calls.now act) }
 {
     match act {
         Act::Issue { call, buffered } => put_issue(out, alloc, ranks, calls, call, buffered),
@@ -357,7 +357,7 @@ fn put_rows(
     calls: &[CallLabel],
     acts: &[Act],
 ) -> Result<(), AllocError>
-    ensures { OnOk result (out.new.items ≡ out.old.items ++ flat_map (row_of ranks calls.now) acts.now) }
+    ensures { OnOk result (out.new.items ≡ out.old.items ++ flat_map (step_row ranks calls.now) acts.now) }
 {
     for act in acts {
         put_row(out, alloc, ranks, calls, *act)?;

@@ -3,7 +3,7 @@
 ghost use Rattle.std.specs.Prelude.{◌≡◌, ◌++◌, IfOk, OnOk, slice_get};
 ghost use Rattle.std.specs.List.{flat_map};
 ghost use Rattle.semantics.specs.Machine.{IsStuckRun};
-ghost use Rattle.charts.specs.Lining.{act_line, call_words, find_line, how_issued, issue_line, lined_run, place_words, told_place};
+ghost use Rattle.charts.specs.Lining.{act_line, label_words, find_line, how_issued, issue_line, lined_run, place_words, told_place};
 
 use callorder::LongProgram;
 use calltext::LongSource;
@@ -39,7 +39,7 @@ fn put_place(out: &mut Vec<u8>, calls: &[CallLabel], call: usize) -> Result<(), 
 
 /// The words of a call.
 fn words_of(calls: &[CallLabel], call: usize) -> &[u8]
-    ensures { result.now ≡ call_words (slice_get calls.now call) }
+    ensures { result.now ≡ label_words (slice_get calls.now call) }
 {
     match calls.get(call) {
         None => b"",

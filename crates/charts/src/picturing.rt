@@ -7,7 +7,7 @@ ghost use Rattle.scene.specs.Labels.{shortened};
 ghost use Rattle.semantics.specs.RunEnds.{IsFinished};
 ghost use Rattle.semantics.specs.Machine.{IsRun, opening};
 ghost use Rattle.charts.specs.Chart.{columns};
-ghost use Rattle.charts.specs.Picture.{IsPicture, IsRunToEnd, arc, arc_at, arc_between, arc_title, arrow_of, bar, bend, box, box_head, box_of, by_width, colour_of_call, colour_of_kind, dash_of, drawn_arrow, drawn_box, drawn_find, drawn_find_of, drawn_issue, drawn_issue_of, edge, end_words, escape, find_title, finished, head, hop, is_chosen, is_in, is_left, link_of, mark_of, name, name_colour, picture_at, rank_end, row, row_head, straight, stroke_of, stub, tip_of, title, told_words, top, verb, waiting, waits_in, way, x_of, y_of};
+ghost use Rattle.charts.specs.Picture.{IsPicture, IsRunToEnd, arc, arc_at, arc_between, arc_title, arrow_of, bar, bend, box, box_head, box_of, by_width, colour_of_call, colour_of_kind, dash_of, drawn_arrow, drawn_box, drawn_find, drawn_find_of, drawn_issue, drawn_issue_of, edge, end_words, escape, find_title, finished, head, hop, is_chosen, is_in, is_left_send, find_link, box_mark, name, name_colour, picture_at, rank_end, rank_row, row_head, straight, stroke_of, stub, tip_of, title, told_words, top, verb, waiting, waits_in, way, x_of, y_of};
 
 use crate::cutting::{behind, put_undrawn_text, undrawn};
 use crate::placing::{Columns, Placed, columns_of, issued_in};
@@ -198,7 +198,7 @@ fn line_and_verb(alloc: Global, told: &CallLabel) -> Result<Vec<u8>, AllocError>
 
 /// What stands in a call's box.
 fn mark_of(alloc: Global, count: usize, told: &CallLabel) -> Result<Vec<u8>, AllocError>
-    ensures { IfOk result (λ mark. mark.items ≡ mark_of count told.now) }
+    ensures { IfOk result (λ mark. mark.items ≡ box_mark count told.now) }
 {
     if count > MOST_WIDE {
         return line_mark(alloc, told);
@@ -209,7 +209,7 @@ fn mark_of(alloc: Global, count: usize, told: &CallLabel) -> Result<Vec<u8>, All
 
 /// Whether the call is a send whose message is not received in the state.
 fn is_left(program: &LongProgram, end: &State, call: usize) -> bool
-    ensures { result ≡ is_left program.now end.now call }
+    ensures { result ≡ is_left_send program.now end.now call }
 {
     match program.call(call) {
         None => false,
@@ -368,7 +368,7 @@ fn put_boxes(
 }
 
 fn link_of(sees: bool) -> &'static str
-    ensures { result.now ≡ link_of sees }
+    ensures { result.now ≡ find_link sees }
 {
     if sees { " seen by " } else { " -&gt; " }
 }
@@ -794,7 +794,7 @@ fn put_row(
     rank: u32,
 ) -> Result<(), AllocError>
     ensures { OnOk result (out.new.items ≡
-        out.old.items ++ row program.now end.now calls.now placed.now.count (slice_index
+        out.old.items ++ rank_row program.now end.now calls.now placed.now.count (slice_index
         placed.now.issues.items) cycle.now rank) }
 {
     put_parts(
@@ -821,7 +821,7 @@ fn put_rows(
     cycle: &[u32],
 ) -> Result<(), AllocError>
     ensures { OnOk result (out.new.items ≡
-        out.old.items ++ columns (row program.now end.now calls.now placed.now.count (slice_index
+        out.old.items ++ columns (rank_row program.now end.now calls.now placed.now.count (slice_index
         placed.now.issues.items) cycle.now) program.now.ranks) }
 {
     for rank in 0..program.ranks() {

@@ -3,7 +3,7 @@
 ghost use Rattle.std.specs.Prelude.{◌≡◌, ◌+◌, ◌<◌, ◌≤◌, ◌++◌, ◌∷◌, [], ℕ, IfOk, OnOk, map, slice_index, slice_set};
 ghost use Rattle.scene.specs.declared.acts.Act.TheVariants.{Issue};
 ghost use Rattle.charts.specs.Columns.{AreColumns, column_of, is_wait, wait_line};
-ghost use Rattle.charts.specs.parts.Placing.{ArePlacedIn, HasPlaced, IsFind, IsRaised, column_in, fresh_row, row_at, row_behind, shared_by};
+ghost use Rattle.charts.specs.parts.Placing.{ArePlacedIn, HasPlaced, IsFindAct, HasRaisedRow, column_in, fresh_row, row_at, row_behind, shared_by};
 
 use callorder::{Kind, LongProgram};
 use scene::{Act, CallLabel};
@@ -171,7 +171,7 @@ fn raise(
     call: usize,
     column: usize,
 ) -> Result<(), AllocError>
-    ensures { OnOk result (IsRaised program.now call column rows.old.items rows.new.items) }
+    ensures { OnOk result (HasRaisedRow program.now call column rows.old.items rows.new.items) }
 {
     let Some(known) = program.call(call) else {
         return Err(AllocError);
@@ -234,7 +234,7 @@ impl Columns {
         act: Act,
     ) -> Result<(), AllocError>
         requires placed { ArePlacedIn program.now calls.now self.old }
-        requires is_find { IsFind send finder act }
+        requires is_find { IsFindAct send finder act }
         ensures { OnOk result (HasPlaced program.now calls.now self.old act self.new) }
     {
         let column = issued_in(&self.issues, send).max(issued_in(&self.issues, finder));

@@ -16,7 +16,7 @@ use Rattle.prooflog.specs.declared.refutation.Version.TheVariants.{Two}
 use Rattle.checker.specs.declared.reason.Reason.{Reason}
 use Rattle.checker.specs.declared.reason.Reason.TheVariants as reasons
 use Rattle.checker.specs.declared.reason.NoRun.TheVariants as runs
-use Rattle.checker.specs.Verdicts.{AreRefuted, HasCounts, IsProgramReason, IsRefutedBy, IsUnneeded, IsUnrefuted, IsUnaccepted, HasFormula, Refutes}
+use Rattle.checker.specs.Verdicts.{AreRefuted, HasCounts, IsProgramReason, IsRefutedBy, IsUnneeded, IsUnrefuted, IsUnaccepted, HasFormula, RefutesProgram}
 use Rattle.checker.specs.Parts.{IsNoRun, has_counts, tree_reason}
 
 -- a program that is refused has no stuck run
@@ -64,7 +64,7 @@ accepted_refute p f claim is counts accepts needed = record {
 }
 
 -- what is refuted is refuted by its text
-pub refuted_refute : (program evidence : List ℕ) (f : Conjunction) (claim : ClaimedRefutation) → AreRefuted program evidence f claim → Refutes program evidence
+pub refuted_refute : (program evidence : List ℕ) (f : Conjunction) (claim : ClaimedRefutation) → AreRefuted program evidence f claim → RefutesProgram program evidence
 refuted_refute program evidence f claim are = record {
   p = are.p;
   claim = claim;

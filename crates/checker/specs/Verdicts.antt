@@ -16,7 +16,7 @@ use Rattle.formula.specs.Numbering.{formula_of}
 use Rattle.encode.specs.declared.fault.EncodeFault.TheVariants as encoding
 use Rattle.semantics.specs.declared.state.Step.{Step}
 use Rattle.semantics.specs.declared.schedule.End.TheVariants as ends
-use Rattle.semantics.specs.RunEnds.{IsFinishedRun, IsLiveRun, StopsAt}
+use Rattle.semantics.specs.RunEnds.{IsFinishedRun, IsLiveRun, StopsAtStep}
 use Rattle.semantics.specs.Machine.{IsStuckRun}
 use Rattle.refutations.specs.Refutations.{Accepts, AreDerived, IsFirstFaulty}
 use Rattle.refutations.specs.Trees.{AcceptsTree, HasTreeFault}
@@ -91,8 +91,8 @@ pub record IsRefutedBy (p : MpiProgram) (claim : ClaimedRefutation) : Type 0 whe
   pub needed : claim.version ≡ Two → Needed claim.clauses claim.lines claim.nodes
 
 -- the program's text has a value, the evidence's text is a refutation's, and it refutes the program
-abbrev pub Refutes : List ℕ → List ℕ → Type 0
-Refutes program evidence = OfRefutation program evidence IsRefutedBy
+abbrev pub RefutesProgram : List ℕ → List ℕ → Type 0
+RefutesProgram program evidence = OfRefutation program evidence IsRefutedBy
 
 -- The one text is that of a program, whose formula this is, and the other text is that of this
 -- refutation, which refutes the program.
@@ -132,7 +132,7 @@ IsUnrefuted _ p claim = ⊥
 -- why a schedule shows no deadlock of a program: a step isn't enabled; the run ends finished, or
 -- live
 abbrev pub IsUnshown : Reason → MpiProgram → List Step → Type 0
-IsUnshown (reasons.Replay at) p steps = StopsAt p steps at
+IsUnshown (reasons.Replay at) p steps = StopsAtStep p steps at
 IsUnshown (reasons.NotStuck ends.Finished) p steps = IsFinishedRun p steps
 IsUnshown (reasons.NotStuck ends.Live) p steps = IsLiveRun p steps
 IsUnshown _ p steps = ⊥
@@ -167,7 +167,7 @@ IsReason program evidence (reasons.NotStuck end) = OfSchedule program evidence (
 
 -- what each verdict says of the program's text and the evidence's text
 abbrev pub Judges : List ℕ → List ℕ → Verdict → Type 0
-Judges program evidence verdicts.NoDeadlock = Refutes program evidence
+Judges program evidence verdicts.NoDeadlock = RefutesProgram program evidence
 Judges program evidence verdicts.Deadlock = Shows program evidence
 Judges program evidence (verdicts.Refused reason) = IsReason program evidence reason
 
@@ -183,7 +183,7 @@ IsJudged program evidence (Err reason) = IsReason program evidence reason
 pub record IsVerdict (program evidence : List ℕ) (verdict : Verdict) : Type 0 where
   pub no_deadlock : verdict ≡ verdicts.NoDeadlock → IsNeverStuck program
   pub deadlock : verdict ≡ verdicts.Deadlock → Shows program evidence
-  pub no_deadlock_only : Refutes program evidence → (verdict ≡ verdicts.NoDeadlock) ⊎ (verdict ≡ verdicts.Refused reasons.Memory)
+  pub no_deadlock_only : RefutesProgram program evidence → (verdict ≡ verdicts.NoDeadlock) ⊎ (verdict ≡ verdicts.Refused reasons.Memory)
   pub deadlock_only : Shows program evidence → (verdict ≡ verdicts.Deadlock) ⊎ (verdict ≡ verdicts.Refused reasons.Memory)
   pub judges : Judges program evidence verdict
 
@@ -191,7 +191,7 @@ pub record IsVerdict (program evidence : List ℕ) (verdict : Verdict) : Type 0 
 
 -- A program that is refuted has no run that ends stuck.
 abbrev pub RefutedAreNeverStuck : Type 0
-RefutedAreNeverStuck = (program evidence : List ℕ) → Refutes program evidence → IsNeverStuck program
+RefutedAreNeverStuck = (program evidence : List ℕ) → RefutesProgram program evidence → IsNeverStuck program
 
 -- Only one verdict but want of memory is right. So a verdict is decided by the two texts alone.
 abbrev pub OneVerdict : Type 0
@@ -199,7 +199,7 @@ OneVerdict = (program evidence : List ℕ) (a b : Verdict) → Judges program ev
 
 -- No program's text is refuted by one evidence and shown to get stuck by another.
 abbrev pub NeverBoth : Type 0
-NeverBoth = (program evidence other : List ℕ) → Refutes program evidence → Shows program other → ⊥
+NeverBoth = (program evidence other : List ℕ) → RefutesProgram program evidence → Shows program other → ⊥
 
 -- ---- reasons by what they rest on
 

@@ -10,7 +10,7 @@ use Rattle.narrowing.specs.Laws.{NeverStuckSo, IsTakenSo}
 use Rattle.narrowing.proofs.Never.{taken_where_never_otherwise}
 use Rattle.checker.proofs.Headlines.{is_program}
 use Rattle.choices.specs.declared.items.Choice.{Choice}
-use Rattle.choices.specs.Weights.{IsKnown, NeverWith, KnownIsTaken}
+use Rattle.choices.specs.Weights.{IsKnownToBeNeeded, NeverWith, KnownIsTaken}
 
 -- of the program in which the call leaves open no more than this way no run ends stuck
 never_so : (text : List ℕ) (number : ℕ) (p : MpiProgram) (call : ℕ) (taken : Taken) → NeverWith text number p call taken → NeverStuckSo p call taken
@@ -25,7 +25,7 @@ never_so text number p call taken never =
 
 pub known_is_taken : KnownIsTaken
 known_is_taken text choice p steps weighed is_text stuck =
-    let known : IsKnown text choice = weighed.1 in
+    let known : IsKnownToBeNeeded text choice = weighed.1 in
     let same : p ≡ known.p = one_program_of_bytes text p known.p is_text known.is_text in
     let there : IsStuckRun known.p steps = subst (λ (q : MpiProgram). IsStuckRun q steps) same stuck in
     subst (λ (q : MpiProgram). IsTakenSo q (after_all (opening q) steps) choice.call choice.taken) (sym same)

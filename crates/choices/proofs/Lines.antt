@@ -5,13 +5,13 @@ use Rattle.std.proofs.lemmas.Grind.{flat_map-append}
 use Rattle.std.proofs.lemmas.List.Concat.{flat_map-cons}
 use Rattle.plaintext.specs.TextLines.{text_lines}
 use Rattle.plaintext.proofs.Texts.{joined-lines}
-use Rattle.choices.specs.parts.Pins.{AreAround, IsPast}
-use Rattle.choices.specs.Pins.{IsPinned, joined}
+use Rattle.choices.specs.parts.Pins.{AreAround, IsPastLines}
+use Rattle.choices.specs.Pins.{IsPinned, concatenated_lines}
 use Rattle.choices.specs.Words.{line_with}
 use Rattle.narrowing.specs.declared.taken.Taken.{Taken}
 
 -- past one more line
-pub past_more : (text : List ℕ) (count : ℕ) (rest line next : List ℕ) → IsPast text count rest → text_lines rest ≡ (line ++ 10 ∷ []) ∷ text_lines next → IsPast text (count + 1) next
+pub past_more : (text : List ℕ) (count : ℕ) (rest line next : List ℕ) → IsPastLines text count rest → text_lines rest ≡ (line ++ 10 ∷ []) ∷ text_lines next → IsPastLines text (count + 1) next
 past_more text count rest line next past e = record {
   before = past.before ++ (line ++ 10 ∷ []) ∷ [];
   cut = past.cut ∙ ap (λ (x : List (List ℕ)). past.before ++ x) e ∙ sym (append_assoc past.before ((line ++ 10 ∷ []) ∷ []) (text_lines next));
@@ -19,16 +19,16 @@ past_more text count rest line next past e = record {
 }
 
 -- the text is the lines before the rest, and the rest
-text_is : (text : List ℕ) (count : ℕ) (rest : List ℕ) (past : IsPast text count rest) → text ≡ joined past.before ++ rest
+text_is : (text : List ℕ) (count : ℕ) (rest : List ℕ) (past : IsPastLines text count rest) → text ≡ concatenated_lines past.before ++ rest
 text_is text count rest past =
-    sym (joined-lines text) ∙ ap joined past.cut ∙ flat_map-append (λ (line : List ℕ). line) past.before (text_lines rest) ∙ ap (λ (x : List ℕ). joined past.before ++ x) (joined-lines rest)
+    sym (joined-lines text) ∙ ap concatenated_lines past.cut ∙ flat_map-append (λ (line : List ℕ). line) past.before (text_lines rest) ∙ ap (λ (x : List ℕ). concatenated_lines past.before ++ x) (joined-lines rest)
 
 shorter : (text front rest : List ℕ) → text ≡ front ++ rest → length rest ≤ length text
 shorter text front rest is = omega (arith, ap length is, length-append front rest)
 
 -- the rest is no longer than the text
-pub rest_within : (text : List ℕ) (count : ℕ) (rest : List ℕ) → IsPast text count rest → length rest ≤ length text
-rest_within text count rest past = shorter text (joined past.before) rest (text_is text count rest past)
+pub rest_within : (text : List ℕ) (count : ℕ) (rest : List ℕ) → IsPastLines text count rest → length rest ≤ length text
+rest_within text count rest past = shorter text (concatenated_lines past.before) rest (text_is text count rest past)
 
 front_of : (text front rest : List ℕ) → text ≡ front ++ rest → take (length text - length rest) text ≡ front
 front_of text front rest is =
@@ -36,14 +36,14 @@ front_of text front rest is =
     ap (λ (n : ℕ). take n text) size ∙ ap (take (length front)) is ∙ take-append_seam front rest
 
 -- what stands around the line after those lines
-pub around_next : (text : List ℕ) (number count : ℕ) (rest old after : List ℕ) → IsPast text count rest → text_lines rest ≡ (old ++ 10 ∷ []) ∷ text_lines after → number ≡ count + 1
+pub around_next : (text : List ℕ) (number count : ℕ) (rest old after : List ℕ) → IsPastLines text count rest → text_lines rest ≡ (old ++ 10 ∷ []) ∷ text_lines after → number ≡ count + 1
     → AreAround text number (take (length text - length rest) text) old after
 around_next text number count rest old after past e at = record {
   before = past.before;
   after = text_lines after;
   cut = past.cut ∙ ap (λ (x : List (List ℕ)). past.before ++ x) e;
   place = omega (arith, past.many, at);
-  front_is = front_of text (joined past.before) rest (text_is text count rest past);
+  front_is = front_of text (concatenated_lines past.before) rest (text_is text count rest past);
   back_is = sym (joined-lines after);
 }
 
@@ -63,7 +63,7 @@ pinned_of text number taken front old back pinned around is =
       is =
           is ∙ regroup front line (10 ∷ []) back
           ∙ ap (λ (x : List ℕ). x ++ ((line ++ 10 ∷ []) ++ back)) around.front_is
-          ∙ ap (λ (x : List ℕ). joined around.before ++ ((line ++ 10 ∷ []) ++ x)) around.back_is
-          ∙ ap (λ (x : List ℕ). joined around.before ++ x) (sym (flat_map-cons (λ (l : List ℕ). l) (line ++ 10 ∷ []) around.after))
+          ∙ ap (λ (x : List ℕ). concatenated_lines around.before ++ ((line ++ 10 ∷ []) ++ x)) around.back_is
+          ∙ ap (λ (x : List ℕ). concatenated_lines around.before ++ x) (sym (flat_map-cons (λ (l : List ℕ). l) (line ++ 10 ∷ []) around.after))
           ∙ sym (flat_map-append (λ (l : List ℕ). l) around.before ((line ++ 10 ∷ []) ∷ around.after));
     }

@@ -6,8 +6,8 @@ use Rattle.choices.specs.Words.{line_with}
 use Rattle.narrowing.specs.declared.taken.Taken.{Taken}
 
 -- lines, one after another
-abbrev pub joined : List (List ℕ) → List ℕ
-joined lines = flat_map (λ line. line) lines
+abbrev pub concatenated_lines : List (List ℕ) → List ℕ
+concatenated_lines lines = flat_map (λ line. line) lines
 
 -- The pinned text has the lines of the text, but in place of that of this number, from 1, it has
 -- words that say that what is taken is taken: one line, or the four calls of a `sendrecv`.
@@ -17,4 +17,4 @@ pub record IsPinned (text : List ℕ) (number : ℕ) (taken : Taken) (pinned : L
   pub after : List (List ℕ)
   pub cut : text_lines text ≡ before ++ (old ++ 10 ∷ []) ∷ after
   pub place : number ≡ length before + 1
-  pub is : pinned ≡ joined (before ++ (line_with taken old ++ 10 ∷ []) ∷ after)
+  pub is : pinned ≡ concatenated_lines (before ++ (line_with taken old ++ 10 ∷ []) ∷ after)

@@ -57,7 +57,7 @@ SomeHangs text number others = (place : ℕ) × (taken : Taken) × (slice_get ot
 
 -- The choice is one of the text's program, with all of its other ways, of which there are some, and
 -- in none of which a run ends stuck.
-pub record IsKnown (text : List ℕ) (choice : Choice) : Type 0 where
+pub record IsKnownToBeNeeded (text : List ℕ) (choice : Choice) : Type 0 where
   pub p : MpiProgram
   pub is_text : IsTextOf text p
   pub is_choice : IsChoiceOf p choice
@@ -68,7 +68,7 @@ pub record IsKnown (text : List ℕ) (choice : Choice) : Type 0 where
 -- other way, and the other ways are all that there are. Where it is told not to be needed, some run
 -- ends stuck where it says another way.
 abbrev pub IsWeighed : List ℕ → Choice → Need → Type 0
-IsWeighed text choice needs.Known = HangsWith text choice.line choice.taken × IsKnown text choice
+IsWeighed text choice needs.Known = HangsWith text choice.line choice.taken × IsKnownToBeNeeded text choice
 IsWeighed text choice needs.Tried = HangsWith text choice.line choice.taken
 IsWeighed text choice needs.No = HangsWith text choice.line choice.taken × SomeHangs text choice.line choice.others.items
 IsWeighed text choice needs.NotAsked = Unit {0}

@@ -6,8 +6,8 @@ use Rattle.plaintext.specs.Plain.{numeral}
 use Rattle.narrowing.specs.declared.taken.Taken.{Taken}
 use Rattle.narrowing.specs.declared.taken.Taken.TheVariants as taken
 
-abbrev pub is_same : List ℕ → List ℕ → Bool
-is_same = pointwise (λ x y. x == y)
+abbrev pub are_same_bytes : List ℕ → List ℕ → Bool
+are_same_bytes = pointwise (λ x y. x == y)
 
 -- how many letters stand before the `send` of a line
 abbrev pub front_letters : List ℕ → ℕ
@@ -24,45 +24,45 @@ letter_line letter line = take (front_letters line) line ++ letter ∷ drop (fro
 -- the place, from 0, of the word that names the source: the one before the tag, with which the line
 -- ends, unless ` comm C` follows
 abbrev pub source_place : List (List ℕ) → ℕ
-source_place words = if is_same (get_or words (length words - 2) []) (codes "comm") then length words - 4 else length words - 2
+source_place words = if are_same_bytes (get_or words (length words - 2) []) (codes "comm") then length words - 4 else length words - 2
 
 -- the word at a place, or what stands for it: the source or the tag for a star
 abbrev pub told_word : ℕ → ℕ → ℕ → ℕ → List ℕ → List ℕ
-told_word source tag at place word = if is_same word (codes "*") then numeral (if place == at then source else tag) else word
+told_word source tag at place word = if are_same_bytes word (codes "*") then numeral (if place == at then source else tag) else word
 
 -- a blank before each word but the first
 abbrev pub blank_before : ℕ → List ℕ
 blank_before place = if place == 0 then [] else codes " "
 
 -- the words from a place on
-abbrev pub told_words : ℕ → ℕ → ℕ → ℕ → List (List ℕ) → List ℕ
-told_words source tag at place [] = []
-told_words source tag at place (word ∷ words) =
-    (blank_before place ++ told_word source tag at place word) ++ told_words source tag at (place + 1) words
+abbrev pub told_words_from : ℕ → ℕ → ℕ → ℕ → List (List ℕ) → List ℕ
+told_words_from source tag at place [] = []
+told_words_from source tag at place (word ∷ words) =
+    (blank_before place ++ told_word source tag at place word) ++ told_words_from source tag at (place + 1) words
 
 -- the line of a call that finds messages, with this source and this tag in the place of stars
 abbrev pub message_line : ℕ → ℕ → List ℕ → List ℕ
 message_line source tag line =
-    told_words source tag (source_place (slice_split (λ b. b == 32) line)) 0 (slice_split (λ b. b == 32) line)
+    told_words_from source tag (source_place (slice_split (λ b. b == 32) line)) 0 (slice_split (λ b. b == 32) line)
 
 -- a blank and the word at a place, from 0
 abbrev pub spaced_word : List (List ℕ) → ℕ → List ℕ
 spaced_word words place = codes " " ++ get_or words place []
 
 -- ` comm C`, where it follows the five words of a `sendrecv`
-abbrev pub communicator_words : List (List ℕ) → List ℕ
-communicator_words words = if is_same (get_or words 5 []) (codes "comm") then spaced_word words 5 ++ spaced_word words 6 else []
+abbrev pub communicator_ending : List (List ℕ) → List ℕ
+communicator_ending words = if are_same_bytes (get_or words 5 []) (codes "comm") then spaced_word words 5 ++ spaced_word words 6 else []
 
 -- the end of a line of one part of a `sendrecv`: the words at these places, for its rank and its
 -- tag, and its communicator
-abbrev pub part_words : List (List ℕ) → ℕ → ℕ → List ℕ
-part_words words rank tag = spaced_word words rank ++ spaced_word words tag ++ communicator_words words ++ codes "\n"
+abbrev pub part_ending : List (List ℕ) → ℕ → ℕ → List ℕ
+part_ending words rank tag = spaced_word words rank ++ spaced_word words tag ++ communicator_ending words ++ codes "\n"
 
 -- The four calls that `sendrecv D T S U` stands for, with this letter before the `send`:
 -- `isend sendofsendrecv D T`, `irecv recvofsendrecv S U`, and a wait for each.
 abbrev pub four_lines : ℕ → List (List ℕ) → List ℕ
 four_lines letter words =
-    codes "i" ++ letter ∷ codes "send sendofsendrecv" ++ part_words words 1 2 ++ codes "irecv recvofsendrecv" ++ part_words words 3 4
+    codes "i" ++ letter ∷ codes "send sendofsendrecv" ++ part_ending words 1 2 ++ codes "irecv recvofsendrecv" ++ part_ending words 3 4
     ++ codes "wait sendofsendrecv\nwait recvofsendrecv"
 
 -- the line of a send with this letter before its `send`; of a `sendrecv`, its four calls

@@ -2,7 +2,7 @@
 
 ghost use Rattle.std.specs.List.{slice_split};
 ghost use Rattle.std.specs.Prelude.{◌≡◌, ◌++◌, ◌==◌, IfOk, OnOk, codes, map};
-ghost use Rattle.choices.specs.Words.{blank_before, communicator_words, four_lines, front_letters, is_joined, is_same, letter_line, line_with, message_line, mode_line, part_words, source_place, spaced_word, told_word, told_words};
+ghost use Rattle.choices.specs.Words.{blank_before, communicator_ending, four_lines, front_letters, is_joined, are_same_bytes, letter_line, line_with, message_line, mode_line, part_ending, source_place, spaced_word, told_word, told_words_from};
 
 use narrowing::Taken;
 use plaintext::{put_number, words_of};
@@ -35,7 +35,7 @@ fn with_letter(alloc: Global, line: &[u8], letter: u8) -> Result<Vec<u8>, AllocE
 
 /// Whether a word is spelled so.
 fn is_spelled(word: &[u8], text: &[u8]) -> bool
-    ensures { result ≡ is_same word.now text.now }
+    ensures { result ≡ are_same_bytes word.now text.now }
 {
     word == text
 }
@@ -94,7 +94,7 @@ fn put_words(
     source: u32,
     tag: u32,
 ) -> Result<(), AllocError>
-    ensures { OnOk result (out.new.items ≡ out.old.items ++ told_words source tag at 0 (map (λ w. w.now) words.now)) }
+    ensures { OnOk result (out.new.items ≡ out.old.items ++ told_words_from source tag at 0 (map (λ w. w.now) words.now)) }
 {
     for (place, word) in words.iter().enumerate() {
         put_word(out, word, place, at, source, tag)?;
@@ -123,7 +123,7 @@ fn put_spaced(out: &mut Vec<u8>, words: &[&[u8]], place: usize) -> Result<(), Al
 
 /// Adds the words that name a communicator, where they follow the five words of a `sendrecv`.
 fn put_communicator(out: &mut Vec<u8>, words: &[&[u8]]) -> Result<(), AllocError>
-    ensures { OnOk result (out.new.items ≡ out.old.items ++ communicator_words (map (λ w. w.now) words.now)) }
+    ensures { OnOk result (out.new.items ≡ out.old.items ++ communicator_ending (map (λ w. w.now) words.now)) }
 {
     let sixth = words.get(5).copied().unwrap_or(b"");
     if !is_spelled(sixth, b"comm") {
@@ -136,7 +136,7 @@ fn put_communicator(out: &mut Vec<u8>, words: &[&[u8]]) -> Result<(), AllocError
 /// Adds the end of a line of one part of a `sendrecv`: the words at these places, for its rank and
 /// its tag, and its communicator.
 fn put_part(out: &mut Vec<u8>, words: &[&[u8]], rank: usize, tag: usize) -> Result<(), AllocError>
-    ensures { OnOk result (out.new.items ≡ out.old.items ++ part_words (map (λ w. w.now) words.now) rank tag) }
+    ensures { OnOk result (out.new.items ≡ out.old.items ++ part_ending (map (λ w. w.now) words.now) rank tag) }
 {
     put_spaced(out, words, rank)?;
     put_spaced(out, words, tag)?;

@@ -44,12 +44,12 @@ signed true value = value
 signed false value = not value
 
 -- the literal is true under the assignment
-abbrev pub holds : TruthAssignment → Literal → Bool
-holds a l = signed l.positive (a l.variable)
+abbrev pub makes_true : TruthAssignment → Literal → Bool
+makes_true a l = signed l.positive (a l.variable)
 
 -- some literal of the clause is true
 abbrev pub satisfies_clause : TruthAssignment → List Literal → Bool
-satisfies_clause a = list_any (holds a)
+satisfies_clause a = list_any (makes_true a)
 
 -- each clause has a literal that is true
 abbrev pub satisfies : TruthAssignment → List (List Literal) → Bool

@@ -1,11 +1,11 @@
 -- What shows that the definitions of clauses mean what they say.
 use Rattle.std.specs.Prelude.{ℕ, ◌≡◌, ◌<◌, ◌↔◌, ◌++◌, IsTrue, List, [], ◌∷◌, Some, slice_get}
-use Rattle.clauses.specs.Clauses.{Literal, TruthAssignment, negation, holds, rises, satisfies_clause, Follows, IsUnsatisfiable}
+use Rattle.clauses.specs.Clauses.{Literal, TruthAssignment, negation, makes_true, rises, satisfies_clause, Follows, IsUnsatisfiable}
 
 -- under each assignment either a literal or its negation is true, and never both
 abbrev pub NegationHoldsWhereLiteralDoesNot : Type 0
 NegationHoldsWhereLiteralDoesNot =
-    (a : TruthAssignment) (l : Literal) → IsTrue (holds a (negation l)) ↔ (IsTrue (holds a l) → ⊥)
+    (a : TruthAssignment) (l : Literal) → IsTrue (makes_true a (negation l)) ↔ (IsTrue (makes_true a l) → ⊥)
 
 -- of two literals of a clause, the later one has the larger variable
 abbrev pub LaterVariableIsLarger : Type 0

@@ -1,7 +1,7 @@
 //! Assignments.
 
 ghost use Rattle.std.specs.Prelude.{◌≡◌};
-ghost use Rattle.clauses.specs.Clauses.{holds, satisfies, satisfies_clause, value_of};
+ghost use Rattle.clauses.specs.Clauses.{makes_true, satisfies, satisfies_clause, value_of};
 
 use crate::clause::Clause;
 use crate::formula::Formula;
@@ -44,7 +44,7 @@ impl Assignment {
 
     /// Whether the literal is true.
     pub fn holds(&self, literal: &Lit) -> bool
-        ensures { result ≡ holds (value_of self.now) literal.now }
+        ensures { result ≡ makes_true (value_of self.now) literal.now }
     {
         self.value(literal.variable()) == literal.is_positive()
     }

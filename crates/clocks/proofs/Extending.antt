@@ -14,23 +14,23 @@ use Rattle.clocks.specs.declared.rows.Count.{Count}
 use Rattle.clocks.specs.declared.race.Race.{Race}
 use Rattle.clocks.specs.parts.Clocks.{Numbering, AreTold, IsChecked, IsSingle, with_partners}
 use Rattle.clocks.specs.Clocks.{IsNoRace, IsUnordered}
-use Rattle.clocks.specs.parts.Exact.{Asked, IsAsked, IsColumn, IsOrdered, IsUnorderedBy, IsWithin, Extends, ShowsFrom}
+use Rattle.clocks.specs.parts.Exact.{Asked, IsAsked, IsColumn, IsOrdered, IsUnorderedBy, KnowsNoMore, Extends, ShowsFrom}
 use Rattle.clocks.specs.parts.Finders.{IsListing, IsLookedAt, Listing, before_at}
 use Rattle.clocks.proofs.Counts.{same_some}
 use Rattle.clocks.proofs.Levels.{SamePartners, or_left, or_right, justified_as}
 use Rattle.clocks.proofs.Looks.{AreLookedAt, looked_between, one_more_place, one_more_send}
 
-told_within : (ns : Numbering) (told : List Count) (a b : Table) → IsWithin a b → AreTold ns a told → AreTold ns b told
+told_within : (ns : Numbering) (told : List Count) (a b : Table) → KnowsNoMore a b → AreTold ns a told → AreTold ns b told
 told_within ns told a b within are c count there number finder from below at = within c finder (are c count there number finder from below at)
 
 pub extends_same : (p : MpiProgram) (e : Configuration) (knows : Table) (S : Table → Type 0) → IsJustified p e knows → S knows → Extends p e knows S
 extends_same p e knows S justified shows = record { more = knows; within = λ c f h. h; justified = justified; shows = shows }
 
-pub extends_as : (p : MpiProgram) (e : Configuration) (knows : Table) (S T : Table → Type 0) → ((more : Table) → IsWithin knows more → S more → T more) → Extends p e knows S → Extends p e knows T
+pub extends_as : (p : MpiProgram) (e : Configuration) (knows : Table) (S T : Table → Type 0) → ((more : Table) → KnowsNoMore knows more → S more → T more) → Extends p e knows S → Extends p e knows T
 extends_as p e knows S T turns w = record { more = w.more; within = w.within; justified = w.justified; shows = turns w.more w.within w.shows }
 
 -- what is shown is shown from each table, and then more from the one that shows it
-pub shows_then : (p : MpiProgram) (e : Configuration) (ns : Numbering) (told : List Count) (S T U : Table → Type 0) → ((a b : Table) → IsWithin a b → S a → S b) → ((more : Table) → S more → T more → U more) → ShowsFrom p e ns told S → ShowsFrom p e ns told T → ShowsFrom p e ns told U
+pub shows_then : (p : MpiProgram) (e : Configuration) (ns : Numbering) (told : List Count) (S T U : Table → Type 0) → ((a b : Table) → KnowsNoMore a b → S a → S b) → ((more : Table) → S more → T more → U more) → ShowsFrom p e ns told S → ShowsFrom p e ns told T → ShowsFrom p e ns told U
 shows_then p e ns told S T U keeps both first second knows justified are =
     let a = first knows justified are in
     let b = second a.more a.justified (told_within ns told knows a.more a.within are) in
@@ -58,13 +58,13 @@ ordered_extends p e knows c f justified w =
 
 -- ---- what is shown stays shown
 
-no_race_more : (p : MpiProgram) (block : Blocks) (e : Configuration) (a b : Table) (f own other : ℕ) → IsWithin a b → IsNoRace p block e a f own other → IsNoRace p block e b f own other
+no_race_more : (p : MpiProgram) (block : Blocks) (e : Configuration) (a b : Table) (f own other : ℕ) → KnowsNoMore a b → IsNoRace p block e a f own other → IsNoRace p block e b f own other
 no_race_more p block e a b f own other within none fit apart later = within other f (none fit apart later)
 
-pub looked_more : (p : MpiProgram) (block : Blocks) (e : Configuration) (listed : List ℕ) (other low high : ℕ) (a b : Table) → IsWithin a b → AreLookedAt p block e a listed other low high → AreLookedAt p block e b listed other low high
+pub looked_more : (p : MpiProgram) (block : Blocks) (e : Configuration) (listed : List ℕ) (other low high : ℕ) (a b : Table) → KnowsNoMore a b → AreLookedAt p block e a listed other low high → AreLookedAt p block e b listed other low high
 looked_more p block e listed other low high a b within looked i f own from below there found = no_race_more p block e a b f own other within (looked i f own from below there found)
 
-pub checked_more : (p : MpiProgram) (block : Blocks) (e : Configuration) (other : ℕ) (a b : Table) → IsWithin a b → IsChecked p block e a other → IsChecked p block e b other
+pub checked_more : (p : MpiProgram) (block : Blocks) (e : Configuration) (other : ℕ) (a b : Table) → KnowsNoMore a b → IsChecked p block e a other → IsChecked p block e b other
 checked_more p block e other a b within checked issued f own found mine =
     elim (checked issued f own found mine) [
       | inl none ↦ inl (no_race_more p block e a b f own other within none)

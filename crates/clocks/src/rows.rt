@@ -4,7 +4,7 @@
 ghost use Rattle.std.specs.Prelude.{◌≡◌, ℕ, Bool, IsTrue, IfOk, OnOk, Option, Some, slice_get};
 ghost use Rattle.semantics.specs.Machine.{Configuration, partner_of};
 ghost use Rattle.races.specs.Tells.{Table, knows_at, tells_find};
-ghost use Rattle.clocks.specs.parts.Clocks.{Numbering, IsJoin, Adds, AreRows, AreTold, AreSound, AreToldSoundly, IsCount, IsRow, level, with_partners};
+ghost use Rattle.clocks.specs.parts.Clocks.{Numbering, IsJoin, AddsToRow, AreRows, AreTold, AreSound, AreToldSoundly, IsCount, IsRow, level, with_partners};
 ghost use Rattle.clocks.specs.parts.Reads.{tells_find_at, tells_read};
 
 use crate::columns::Columns;
@@ -36,7 +36,7 @@ fn join(row: &mut Vec<usize>, other: &[usize])
 
 /// Adds what the issue of the call tells.
 fn join_row(columns: &Columns, rows: &[Vec<usize>], row: &mut Vec<usize>, call: usize)
-    ensures { Adds columns.now rows.now (λ knows f. knows call f) row.old.items row.new.items }
+    ensures { AddsToRow columns.now rows.now (λ knows f. knows call f) row.old.items row.new.items }
 {
     if let Some(other) = rows.get(call) {
         join(row, other.as_slice());
@@ -45,7 +45,7 @@ fn join_row(columns: &Columns, rows: &[Vec<usize>], row: &mut Vec<usize>, call: 
 
 /// Adds what the issue of the call tells, if there is one.
 fn join_at(columns: &Columns, rows: &[Vec<usize>], row: &mut Vec<usize>, call: Option<usize>)
-    ensures { Adds columns.now rows.now (λ knows f. knows_at knows call f) row.old.items row.new.items }
+    ensures { AddsToRow columns.now rows.now (λ knows f. knows_at knows call f) row.old.items row.new.items }
 {
     if let Some(call) = call {
         join_row(columns, rows, row, call);
@@ -61,7 +61,7 @@ fn add_find(
     row: &mut Vec<usize>,
     finder: usize,
 )
-    ensures { Adds columns.now rows.now (λ knows f. tells_find (with_partners partners.now) knows finder f) row.old.items row.new.items }
+    ensures { AddsToRow columns.now rows.now (λ knows f. tells_find (with_partners partners.now) knows finder f) row.old.items row.new.items }
 {
     join_row(columns, rows, row, finder);
     join_at(columns, rows, row, partner(partners, finder));
@@ -76,7 +76,7 @@ fn add_find_at(
     row: &mut Vec<usize>,
     finder: Option<usize>,
 )
-    ensures { Adds columns.now rows.now (λ knows f. tells_find_at (with_partners partners.now) knows finder f) row.old.items row.new.items }
+    ensures { AddsToRow columns.now rows.now (λ knows f. tells_find_at (with_partners partners.now) knows finder f) row.old.items row.new.items }
 {
     if let Some(finder) = finder {
         add_find(columns, partners, rows, row, finder);
@@ -91,7 +91,7 @@ fn add_read(
     row: &mut Vec<usize>,
     read: &Read,
 )
-    ensures { Adds columns.now rows.now (λ knows f. tells_read (with_partners partners.now) knows read.now f) row.old.items row.new.items }
+    ensures { AddsToRow columns.now rows.now (λ knows f. tells_read (with_partners partners.now) knows read.now f) row.old.items row.new.items }
 {
     join_at(columns, rows, row, read.before);
     add_find_at(columns, partners, rows, row, read.found.finder);

@@ -4,16 +4,16 @@ use Rattle.std.specs.List.{flat_map, starts_with}
 use Rattle.plaintext.specs.TextLines.{text_lines}
 
 -- the line begins with these words
-abbrev pub begins : List ℕ → List ℕ → Bool
-begins line words = starts_with (λ x y. x == y) line words
+abbrev pub line_begins_with : List ℕ → List ℕ → Bool
+line_begins_with line words = starts_with (λ x y. x == y) line words
 
 -- the number of a color by ECMA-48: green where there is no deadlock, red where there is one, and
 -- yellow where no answer is known or the program is refused; none for another line
 abbrev pub color_of : List ℕ → Option (List ℕ)
 color_of line =
-    if begins line (codes "no deadlock") then Some (codes "32")
-    else if begins line (codes "deadlock") || begins line (codes "cycle: ") then Some (codes "31")
-    else if begins line (codes "unknown ") || begins line (codes "refused ") then Some (codes "33")
+    if line_begins_with line (codes "no deadlock") then Some (codes "32")
+    else if line_begins_with line (codes "deadlock") || line_begins_with line (codes "cycle: ") then Some (codes "31")
+    else if line_begins_with line (codes "unknown ") || line_begins_with line (codes "refused ") then Some (codes "33")
     else None
 
 -- a line in bold type of this color, until behind its LF

@@ -12,7 +12,7 @@ use Rattle.clap.specs.declared.builder.arg.Arg.{Arg}
 use Rattle.clap.specs.declared.builder.command.Command.{Command}
 use Rattle.clap.specs.declared.parser.matches.ArgMatches.{ArgMatches}
 use Rattle.clap.proofs.WalkLemmas.{first_value-rows, one_text-rows, raw_values-rows}
-use Rattle.command_line.specs.CommandLine.{IsRuled, IsShaped, command_line}
+use Rattle.command_line.specs.CommandLine.{IsRuled, IsShapedAs, command_line}
 use Rattle.command_line.specs.Requests.{is_true, AskFor, Flags, Makes, MakesSome, NamesTask, Reads, Task, path_of, task_of, texts_in}
 use Rattle.command_line.specs.declared.request.Request.{Request}
 use Rattle.std.specs.Prelude.{Box, List}
@@ -28,16 +28,16 @@ use Rattle.clap.proofs.OnLiterals.{clap_on_literals}
 use Rattle.std.proofs.Common.{subst}
 
 -- one more argument
-pub shaped_arg : (old new : Command) (a : Arg) (app : App) (rule : Rule) → IsShaped old app → IsRuled a rule → AddsArg old a new
-    → IsShaped new (with_rule app rule)
+pub shaped_arg : (old new : Command) (a : Arg) (app : App) (rule : Rule) → IsShapedAs old app → IsRuled a rule → AddsArg old a new
+    → IsShapedAs new (with_rule app rule)
 shaped_arg old new a app rule shaped ruled adds = record {
   read_as = adds.shape ruled.own ∙ ap₂ with_rule shaped.read_as ruled.read_as;
   own = adds.globals ∙ ap₂ (λ b d. b || d) shaped.own ruled.own;
 }
 
 -- one more subcommand
-pub shaped_subcommand : (old sub new : Command) (app below : App) → IsShaped old app → IsShaped sub below → AddsSubcommand old sub new
-    → IsShaped new (with_subcommand app below.top)
+pub shaped_subcommand : (old sub new : Command) (app below : App) → IsShapedAs old app → IsShapedAs sub below → AddsSubcommand old sub new
+    → IsShapedAs new (with_subcommand app below.top)
 shaped_subcommand old sub new app below shaped under adds = record {
   read_as = adds.shape under.own ∙ ap₂ with_subcommand shaped.read_as (ap (λ (a : App). a.top) under.read_as);
   own = adds.globals ∙ ap₂ (λ b d. b || d) shaped.own under.own;

@@ -7,7 +7,7 @@ use Rattle.clap.specs.Words.{Text}
 use Rattle.clap.proofs.OnLiterals.{clap_on_literals}
 use Rattle.clap.specs.declared.error.kind.ErrorKind.TheVariants.{ValueValidation}
 use Rattle.options.specs.declared.form.Form.TheVariants.{Brief, Whole, Graph, Chart, Picture, Page, Object, Messages}
-use Rattle.command_line.specs.Requests.{number_of}
+use Rattle.command_line.specs.Requests.{spelled_number}
 use Rattle.command_line.specs.UsualWords.{PlainWordsAreRead, check_form, check_json_form, check_pieces_form, decide_both_form, decide_form, decide_phases_form, phases_form, join_form, join_json_form, join_out_form, decide_ranks_form, decide_ranks_set_form, decide_json_form, decide_junit_form, decide_out_form, explain_each_form, explain_three_form, encode_dimacs_form, encode_form, explain_alone_form, explain_form, explain_map_form, explain_ranks_form, export_form, prove_form, prove_json_form, prove_out_form, prove_progress_form, replay_form, replay_lines_form, shrink_form, shrink_map_form, shrink_out_form, trim_form, trim_json_form, unroll_collectives_form, unroll_form, unroll_map_form, unroll_set_form, unroll_sets_form}
 use Rattle.command_line.proofs.CommandNames.{check_is, decide_is, encode_is, explain_is, export_is, prove_is, replay_is, shrink_is, trim_is, unroll_is, phases_is, join_is}
 use Rattle.command_line.proofs.Parts.{asks_by, bare, fixed, given}
@@ -15,7 +15,7 @@ use Rattle.command_line.proofs.PieceWords.{pieces_are_free, pieces_pass, plusles
 
 -- what an option's text spells
 abbrev Spells : Option Text → ℕ → Type 0
-Spells o number = (text : Text) × (o ≡ Some text) × IsNumeral 10 (without_leading_plus text) × (number ≡ number_of text)
+Spells o number = (text : Text) × (o ≡ Some text) × IsNumeral 10 (without_leading_plus text) × (number ≡ spelled_number text)
 
 -- the usual numbers
 four : {o : Option Text} → o ≡ Some (codes "4") → Spells o 4

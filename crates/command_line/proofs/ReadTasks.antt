@@ -5,13 +5,13 @@ use Rattle.std.specs.Str.{bytes_eq}
 use Rattle.clap.specs.Words.{Row, Text, first_of, one_of, subcommand_of}
 use Rattle.clap.proofs.OnLiterals.{clap_on_literals}
 use Rattle.command_line.specs.CommandLine.{command_line}
-use Rattle.command_line.specs.Requests.{Makes, MakesSome, OneTaskIsAsked, Reads, Task, form_in, further_in, is_beside_ranks, is_beside_each, is_beside_several, is_each, is_several, is_spmd_asked, is_true, number_of, programs_in, settings_in, to_check, to_decide, to_decide_each, to_decide_phases, to_decide_unrolled, to_encode, to_explain, to_explain_each, to_explain_unrolled, to_export, to_join, to_phases, to_prove, to_replay, to_shrink, to_trim, to_unroll}
+use Rattle.command_line.specs.Requests.{Makes, MakesSome, OneTaskIsAsked, Reads, Task, form_in, further_in, is_beside_ranks, is_beside_each, is_beside_several, is_each, is_several, is_spmd_asked, is_true, spelled_number, programs_in, settings_in, to_check, to_decide, to_decide_each, to_decide_phases, to_decide_unrolled, to_encode, to_explain, to_explain_each, to_explain_unrolled, to_export, to_join, to_phases, to_prove, to_replay, to_shrink, to_trim, to_unroll}
 
 abbrev text_in : Option Text → Text
 text_in o = unwrap_or o []
 
 abbrev number_in : Option Text → ℕ
-number_in o = number_of (text_in o)
+number_in o = spelled_number (text_in o)
 
 -- the task of the matches of `decide` with one program text, by phases or not
 abbrev decided_one : Bool → List Row → Task

@@ -262,7 +262,7 @@ pub record IsRuled (a : Arg) (rule : Rule) : Type 0 where
   pub own : a.global ≡ false
 
 -- the command has these arguments and subcommands, and none for all of its subcommands
-pub record IsShaped (c : Command) (app : App) : Type 0 where
+pub record IsShapedAs (c : Command) (app : App) : Type 0 where
   pub read_as : app_of c ≡ app
   pub own : (out-Command c).has_globals ≡ false
 

@@ -129,13 +129,13 @@ form_in rows =
     else Brief))))))
 
 -- the number that a text spells in decimal digits, a plus before which doesn't count
-abbrev pub number_of : Text → ℕ
-number_of text = digits_value 10 (without_leading_plus text)
+abbrev pub spelled_number : Text → ℕ
+spelled_number text = digits_value 10 (without_leading_plus text)
 
 -- the number is the one that the argument's text spells
 abbrev pub Reads : List Row → Text → ℕ → Type 0
 Reads rows id number =
-    (text : Text) × (one_of id rows ≡ Some text) × IsNumeral 10 (without_leading_plus text) × (number ≡ number_of text)
+    (text : Text) × (one_of id rows ≡ Some text) × IsNumeral 10 (without_leading_plus text) × (number ≡ spelled_number text)
 
 -- all texts of an argument, in their order
 abbrev pub texts_in : Option (List Text) → List Text

@@ -5,7 +5,7 @@ use Rattle.clap.specs.Words.{Text}
 use Rattle.options.specs.Ranges.{IsPieces}
 use Rattle.options.specs.declared.form.Form.{Form}
 use Rattle.options.specs.declared.form.Form.TheVariants.{Brief, Whole, Graph, Chart, Picture, Page, Object, Messages}
-use Rattle.command_line.specs.Requests.{AskFor, Task, number_of, to_check, to_decide, to_decide_each, to_decide_phases, to_decide_unrolled, to_encode, to_explain, to_explain_each, to_explain_unrolled, to_export, to_join, to_phases, to_prove, to_replay, to_shrink, to_trim, to_unroll}
+use Rattle.command_line.specs.Requests.{AskFor, Task, spelled_number, to_check, to_decide, to_decide_each, to_decide_phases, to_decide_unrolled, to_encode, to_explain, to_explain_each, to_explain_unrolled, to_export, to_join, to_phases, to_prove, to_replay, to_shrink, to_trim, to_unroll}
 
 -- the text's first byte is a hyphen
 abbrev pub begins_with_hyphen : Text → Bool
@@ -40,7 +40,7 @@ pub data PlainForm : List Text → Task → Type 0 where
   check_json_form : (name p e : Text) → IsFree p → IsFree e
       → PlainForm (name ∷ codes "check" ∷ p ∷ e ∷ codes "--json" ∷ []) (to_check p e 4 true)
   check_pieces_form : (name p e pieces : Text) → IsFree p → IsFree e → SpellsPieces pieces
-      → PlainForm (name ∷ codes "check" ∷ p ∷ e ∷ codes "--pieces" ∷ pieces ∷ []) (to_check p e (number_of pieces) false)
+      → PlainForm (name ∷ codes "check" ∷ p ∷ e ∷ codes "--pieces" ∷ pieces ∷ []) (to_check p e (spelled_number pieces) false)
   replay_form : (name p e : Text) → IsFree p → IsFree e
       → PlainForm (name ∷ codes "replay" ∷ p ∷ e ∷ []) (to_replay p e false)
   replay_lines_form : (name p e : Text) → IsFree p → IsFree e
@@ -137,17 +137,17 @@ pub data OptionForm : List Text → Task → Type 0 where
   check_json_between : (name p e : Text) → IsFree p → IsFree e
       → OptionForm (name ∷ codes "check" ∷ p ∷ codes "--json" ∷ e ∷ []) (to_check p e 4 true)
   check_pieces : (name p e pieces : Text) → IsFree p → IsFree e → IsFree pieces
-      → OptionForm (name ∷ codes "check" ∷ p ∷ e ∷ codes "--pieces" ∷ pieces ∷ []) (to_check p e (number_of pieces) false)
+      → OptionForm (name ∷ codes "check" ∷ p ∷ e ∷ codes "--pieces" ∷ pieces ∷ []) (to_check p e (spelled_number pieces) false)
   prove_options_first : (name p file workers depth budget : Text) → IsFree p → IsFree file → IsFree workers → IsFree depth → IsFree budget
       → OptionForm (name ∷ codes "prove" ∷ option_words file workers depth budget (p ∷ []))
-      (to_prove p (Some file) (number_of workers) (number_of depth) (number_of budget) true true)
+      (to_prove p (Some file) (spelled_number workers) (spelled_number depth) (spelled_number budget) true true)
   prove_options_last : (name p file workers depth budget : Text) → IsFree p → IsFree file → IsFree workers → IsFree depth → IsFree budget
       → OptionForm (name ∷ codes "prove" ∷ p ∷ option_words file workers depth budget [])
-      (to_prove p (Some file) (number_of workers) (number_of depth) (number_of budget) true true)
+      (to_prove p (Some file) (spelled_number workers) (spelled_number depth) (spelled_number budget) true true)
   explain_options_last : (name p workers depth budget : Text) → IsFree p → IsFree workers → IsFree depth → IsFree budget
       → OptionForm
       (name ∷ codes "explain" ∷ p ∷ codes "--workers" ∷ workers ∷ codes "--depth" ∷ depth ∷ codes "--budget" ∷ budget ∷ codes "--dot" ∷ [])
-      (to_explain p None (number_of workers) (number_of depth) (number_of budget) Graph None)
+      (to_explain p None (spelled_number workers) (spelled_number depth) (spelled_number budget) Graph None)
 
 -- what such words ask for is that task
 abbrev pub OptionWordsAreRead : Type 0

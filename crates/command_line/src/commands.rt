@@ -2,7 +2,7 @@
 
 ghost use Rattle.std.specs.Prelude.{◌≡◌, IfOk};
 ghost use Rattle.clap.specs.Words.{App, Rule, new_app, with_rule, with_subcommand};
-ghost use Rattle.command_line.specs.CommandLine.{IsRuled, IsShaped, check_app, command_line, decide_app, encode_app, explain_app, export_app, join_app, phases_app, prove_app, replay_app, shrink_app, trim_app, unroll_app, version_line, with_search, with_unrolling};
+ghost use Rattle.command_line.specs.CommandLine.{IsRuled, IsShapedAs, check_app, command_line, decide_app, encode_app, explain_app, export_app, join_app, phases_app, prove_app, replay_app, shrink_app, trim_app, unroll_app, version_line, with_search, with_unrolling};
 
 use crate::arguments::{
     all, budget, chart, collectives, color, depth, dimacs, dot, each, evidence, folder, html, json,
@@ -32,16 +32,16 @@ fn under<'a>(
     whole: Result<Command<'a>, AllocError>,
     below: Result<Command<'a>, AllocError>,
 ) -> Result<Command<'a>, AllocError>
-    ensures { (app sub : App) → IfOk whole.entry (λ c. IsShaped c app) → IfOk below.entry (λ c. IsShaped c sub)
-        → IfOk result (λ c. IsShaped c (with_subcommand app sub.top)) }
+    ensures { (app sub : App) → IfOk whole.entry (λ c. IsShapedAs c app) → IfOk below.entry (λ c. IsShapedAs c sub)
+        → IfOk result (λ c. IsShapedAs c (with_subcommand app sub.top)) }
 {
     whole?.subcommand(below?)
 }
 
 /// A command with one more argument, in the same way.
 fn with<'a>(whole: Result<Command<'a>, AllocError>, arg: Arg<'a>) -> Result<Command<'a>, AllocError>
-    ensures { (app : App) (rule : Rule) → IfOk whole.entry (λ c. IsShaped c app) → IsRuled arg.entry rule
-        → IfOk result (λ c. IsShaped c (with_rule app rule)) }
+    ensures { (app : App) (rule : Rule) → IfOk whole.entry (λ c. IsShapedAs c app) → IsRuled arg.entry rule
+        → IfOk result (λ c. IsShapedAs c (with_rule app rule)) }
 {
     whole?.arg(arg)
 }
@@ -51,7 +51,7 @@ fn with_search<'a>(
     alloc: Global,
     whole: Result<Command<'a>, AllocError>,
 ) -> Result<Command<'a>, AllocError>
-    ensures { (app : App) → IfOk whole.entry (λ c. IsShaped c app) → IfOk result (λ c. IsShaped c (with_search app)) }
+    ensures { (app : App) → IfOk whole.entry (λ c. IsShapedAs c app) → IfOk result (λ c. IsShapedAs c (with_search app)) }
 {
     let whole = with(whole, workers(alloc));
     let whole = with(whole, depth(alloc));
@@ -63,7 +63,7 @@ fn with_unrolling<'a>(
     alloc: Global,
     whole: Result<Command<'a>, AllocError>,
 ) -> Result<Command<'a>, AllocError>
-    ensures { (app : App) → IfOk whole.entry (λ c. IsShaped c app) → IfOk result (λ c. IsShaped c (with_unrolling app)) }
+    ensures { (app : App) → IfOk whole.entry (λ c. IsShapedAs c app) → IfOk result (λ c. IsShapedAs c (with_unrolling app)) }
 {
     let whole = with(whole, several_ranks(alloc));
     let whole = with(whole, set(alloc));
@@ -72,14 +72,14 @@ fn with_unrolling<'a>(
 
 /// A command with this name, whose help begins and ends so.
 fn named<'a>(alloc: Global, name: &'a str, about: &'a str, end: &'a str) -> Command<'a>
-    ensures { IsShaped result (new_app name.entry.now) }
+    ensures { IsShapedAs result (new_app name.entry.now) }
 {
     Command::new(alloc, name).about(about).after_help(end)
 }
 
 /// The whole command line.
 pub fn command<'a>(alloc: Global) -> Result<Command<'a>, AllocError>
-    ensures { IfOk result (λ c. IsShaped c command_line) }
+    ensures { IfOk result (λ c. IsShapedAs c command_line) }
 {
     let top = Command::new(alloc, "mpiprove")
         .version(version_line())
@@ -100,7 +100,7 @@ pub fn command<'a>(alloc: Global) -> Result<Command<'a>, AllocError>
 }
 
 fn prove_command<'a>(alloc: Global) -> Result<Command<'a>, AllocError>
-    ensures { IfOk result (λ c. IsShaped c prove_app) }
+    ensures { IfOk result (λ c. IsShapedAs c prove_app) }
 {
     let command = named(
         alloc,
@@ -117,7 +117,7 @@ fn prove_command<'a>(alloc: Global) -> Result<Command<'a>, AllocError>
 }
 
 fn check_command<'a>(alloc: Global) -> Result<Command<'a>, AllocError>
-    ensures { IfOk result (λ c. IsShaped c check_app) }
+    ensures { IfOk result (λ c. IsShapedAs c check_app) }
 {
     let command = named(alloc, "check", "Judges a program by an evidence", CHECK_END);
     let command = with(Ok(command), program(alloc));
@@ -128,7 +128,7 @@ fn check_command<'a>(alloc: Global) -> Result<Command<'a>, AllocError>
 }
 
 fn replay_command<'a>(alloc: Global) -> Result<Command<'a>, AllocError>
-    ensures { IfOk result (λ c. IsShaped c replay_app) }
+    ensures { IfOk result (λ c. IsShapedAs c replay_app) }
 {
     let command = named(
         alloc,
@@ -142,7 +142,7 @@ fn replay_command<'a>(alloc: Global) -> Result<Command<'a>, AllocError>
 }
 
 fn encode_command<'a>(alloc: Global) -> Result<Command<'a>, AllocError>
-    ensures { IfOk result (λ c. IsShaped c encode_app) }
+    ensures { IfOk result (λ c. IsShapedAs c encode_app) }
 {
     let command = named(
         alloc,
@@ -155,7 +155,7 @@ fn encode_command<'a>(alloc: Global) -> Result<Command<'a>, AllocError>
 }
 
 fn explain_command<'a>(alloc: Global) -> Result<Command<'a>, AllocError>
-    ensures { IfOk result (λ c. IsShaped c explain_app) }
+    ensures { IfOk result (λ c. IsShapedAs c explain_app) }
 {
     let command = named(
         alloc,
@@ -181,7 +181,7 @@ fn explain_command<'a>(alloc: Global) -> Result<Command<'a>, AllocError>
 }
 
 fn export_command<'a>(alloc: Global) -> Result<Command<'a>, AllocError>
-    ensures { IfOk result (λ c. IsShaped c export_app) }
+    ensures { IfOk result (λ c. IsShapedAs c export_app) }
 {
     let command = named(
         alloc,
@@ -195,7 +195,7 @@ fn export_command<'a>(alloc: Global) -> Result<Command<'a>, AllocError>
 }
 
 fn trim_command<'a>(alloc: Global) -> Result<Command<'a>, AllocError>
-    ensures { IfOk result (λ c. IsShaped c trim_app) }
+    ensures { IfOk result (λ c. IsShapedAs c trim_app) }
 {
     let command = named(
         alloc,
@@ -209,7 +209,7 @@ fn trim_command<'a>(alloc: Global) -> Result<Command<'a>, AllocError>
 }
 
 fn shrink_command<'a>(alloc: Global) -> Result<Command<'a>, AllocError>
-    ensures { IfOk result (λ c. IsShaped c shrink_app) }
+    ensures { IfOk result (λ c. IsShapedAs c shrink_app) }
 {
     let command = named(
         alloc,
@@ -223,7 +223,7 @@ fn shrink_command<'a>(alloc: Global) -> Result<Command<'a>, AllocError>
 }
 
 fn decide_command<'a>(alloc: Global) -> Result<Command<'a>, AllocError>
-    ensures { IfOk result (λ c. IsShaped c decide_app) }
+    ensures { IfOk result (λ c. IsShapedAs c decide_app) }
 {
     let command = named(
         alloc,
@@ -242,7 +242,7 @@ fn decide_command<'a>(alloc: Global) -> Result<Command<'a>, AllocError>
 }
 
 fn phases_command<'a>(alloc: Global) -> Result<Command<'a>, AllocError>
-    ensures { IfOk result (λ c. IsShaped c phases_app) }
+    ensures { IfOk result (λ c. IsShapedAs c phases_app) }
 {
     let command = named(
         alloc,
@@ -255,7 +255,7 @@ fn phases_command<'a>(alloc: Global) -> Result<Command<'a>, AllocError>
 }
 
 fn join_command<'a>(alloc: Global) -> Result<Command<'a>, AllocError>
-    ensures { IfOk result (λ c. IsShaped c join_app) }
+    ensures { IfOk result (λ c. IsShapedAs c join_app) }
 {
     let command = named(
         alloc,
@@ -271,7 +271,7 @@ fn join_command<'a>(alloc: Global) -> Result<Command<'a>, AllocError>
 }
 
 fn unroll_command<'a>(alloc: Global) -> Result<Command<'a>, AllocError>
-    ensures { IfOk result (λ c. IsShaped c unroll_app) }
+    ensures { IfOk result (λ c. IsShapedAs c unroll_app) }
 {
     let command = named(
         alloc,

@@ -12,7 +12,7 @@ use Rattle.std.proofs.lemmas.List.FromFn.{length-range_with_len, map-range_with_
 use Rattle.std.proofs.lemmas.List.Sorted.{sorted_far, All-permutation, IsPermutation-map, IsPermutation-sym, IsPermutation-trans, sum_by-IsPermutation}
 use Rattle.std.proofs.lemmas.List.Sums.{sum_by-cons}
 use Rattle.candidates.specs.Pairs.{pair_at, with_taker}
-use Rattle.cubes.specs.Order.{choices, comes_first, rank_of, IsBranchingOrder}
+use Rattle.cubes.specs.Order.{choices, branches_before, branching_rank_of, IsBranchingOrder}
 use Rattle.cubes.specs.Laws.{OneBranchingOrder}
 
 -- ---- what comes first
@@ -56,7 +56,7 @@ chain a b c i j k one two =
     let right : b ≡ c = omega (arith, first.0, second.0) in
     omega (arith, first.1 left, second.1 right))
 
-is_order : (pairs : List (ℕ × ℕ)) → IsStrictWeakOrder (comes_first pairs)
+is_order : (pairs : List (ℕ × ℕ)) → IsStrictWeakOrder (branches_before pairs)
 is_order pairs =
     record {
       one_way = λ x y. one_way (choices pairs x) (choices pairs y) x y;
@@ -64,7 +64,7 @@ is_order pairs =
     }
 
 -- neither of two comes before the other only where they are one
-no_ties : (pairs : List (ℕ × ℕ)) (x y : ℕ) → comes_first pairs x y ≡ false → comes_first pairs y x ≡ false → x ≡ y
+no_ties : (pairs : List (ℕ × ℕ)) (x y : ℕ) → branches_before pairs x y ≡ false → branches_before pairs y x ≡ false → x ≡ y
 no_ties pairs x y one two =
     let first = false_parts (choices pairs x) (choices pairs y) x y one in
     let second = false_parts (choices pairs y) (choices pairs x) y x two in
@@ -93,14 +93,14 @@ few_with_taker pairs taker =
 few_choices : (pairs : List (ℕ × ℕ)) (k : ℕ) → choices pairs k ≤ length pairs
 few_choices pairs k = few_with_taker pairs (pair_at pairs k).1
 
-numbers_of : (pairs : List (ℕ × ℕ)) (xs : List ℕ) → map (λ (r : ℕ × ℕ). r.1) (map (rank_of pairs) xs) ≡ xs
+numbers_of : (pairs : List (ℕ × ℕ)) (xs : List ℕ) → map (λ (r : ℕ × ℕ). r.1) (map (branching_rank_of pairs) xs) ≡ xs
 numbers_of pairs [] = refl
 numbers_of pairs (x ∷ xs) = ap (λ (ys : List ℕ). x ∷ ys) (numbers_of pairs xs)
 
 abbrev IsRank : List (ℕ × ℕ) → ℕ × ℕ → Type 0
 IsRank pairs r = r.0 ≡ length pairs - choices pairs r.1
 
-rank_order : (pairs : List (ℕ × ℕ)) (x y : ℕ × ℕ) → IsRank pairs x → IsRank pairs y → is_lt (ordering_then (nat_cmp x.0 y.0) (nat_cmp x.1 y.1)) ≡ false → comes_first pairs x.1 y.1 ≡ false
+rank_order : (pairs : List (ℕ × ℕ)) (x y : ℕ × ℕ) → IsRank pairs x → IsRank pairs y → is_lt (ordering_then (nat_cmp x.0 y.0) (nat_cmp x.1 y.1)) ≡ false → branches_before pairs x.1 y.1 ≡ false
 rank_order pairs x y is_x is_y e =
     let few_x = few_choices pairs x.1 in
     let few_y = few_choices pairs y.1 in
@@ -113,20 +113,20 @@ rank_order pairs x y is_x is_y e =
     ])
 
 -- one rank more, made of what was read of the pairs
-pub rank_more : (pairs slice old new : List (ℕ × ℕ)) (row : List ℕ) (number count : ℕ) → old ≡ map (rank_of pairs) (range_with_len 0 number) → new ≡ old ++ (count - length row, number) ∷ [] → slice ≡ pairs → row ≡ with_taker pairs (pair_at slice number).1 → count ≡ length pairs → new ≡ map (rank_of pairs) (range_with_len 0 (number + 1))
+pub rank_more : (pairs slice old new : List (ℕ × ℕ)) (row : List ℕ) (number count : ℕ) → old ≡ map (branching_rank_of pairs) (range_with_len 0 number) → new ≡ old ++ (count - length row, number) ∷ [] → slice ≡ pairs → row ≡ with_taker pairs (pair_at slice number).1 → count ≡ length pairs → new ≡ map (branching_rank_of pairs) (range_with_len 0 (number + 1))
 rank_more pairs slice old new row number count so_far is slice_is row_is count_is =
     let same = ap (λ (ps : List (ℕ × ℕ)). length (with_taker pairs (pair_at ps number).1)) slice_is in
     let others : count - length row ≡ length pairs - choices pairs number = omega (arith, ap length row_is, same) in
     is
     ∙ ap (λ (rs : List (ℕ × ℕ)). rs ++ (count - length row, number) ∷ []) so_far
-    ∙ ap (λ (n : ℕ). map (rank_of pairs) (range_with_len 0 number) ++ (n, number) ∷ []) others
-    ∙ sym (map-range_with_len_more (rank_of pairs) 0 number number (omega arith))
+    ∙ ap (λ (n : ℕ). map (branching_rank_of pairs) (range_with_len 0 number) ++ (n, number) ∷ []) others
+    ∙ sym (map-range_with_len_more (branching_rank_of pairs) 0 number number (omega arith))
 
 -- the numbers of sorted ranks
-pub order_made : (pairs : List (ℕ × ℕ)) (count : ℕ) (ranks sorted : List (ℕ × ℕ)) → ranks ≡ map (rank_of pairs) (range_with_len 0 count) → IsPermutation ranks sorted → IsSorted (λ (x y : ℕ × ℕ). ordering_then (nat_cmp x.0 y.0) (nat_cmp x.1 y.1)) sorted → IsBranchingOrder pairs count (map (λ (r : ℕ × ℕ). r.1) sorted)
+pub order_made : (pairs : List (ℕ × ℕ)) (count : ℕ) (ranks sorted : List (ℕ × ℕ)) → ranks ≡ map (branching_rank_of pairs) (range_with_len 0 count) → IsPermutation ranks sorted → IsSorted (λ (x y : ℕ × ℕ). ordering_then (nat_cmp x.0 y.0) (nat_cmp x.1 y.1)) sorted → IsBranchingOrder pairs count (map (λ (r : ℕ × ℕ). r.1) sorted)
 order_made pairs count ranks sorted made moved in_order =
     let numbers : List ℕ = range_with_len 0 count in
-    let all_ranks : All (IsRank pairs) ranks = subst (λ (rs : List (ℕ × ℕ)). All (IsRank pairs) rs) (sym made) (All-map (IsRank pairs) (rank_of pairs) numbers (λ k d low. refl)) in
+    let all_ranks : All (IsRank pairs) ranks = subst (λ (rs : List (ℕ × ℕ)). All (IsRank pairs) rs) (sym made) (All-map (IsRank pairs) (branching_rank_of pairs) numbers (λ k d low. refl)) in
     let ranks_sorted : All (IsRank pairs) sorted = All-permutation (IsRank pairs) ranks sorted moved all_ranks in
     let many = length-map sorted (λ (r : ℕ × ℕ). r.1) in
     record {
@@ -136,8 +136,8 @@ order_made pairs count ranks sorted made moved in_order =
           let this_low : k < length sorted = omega (arith, many) in
           let next = get_or-map (λ (r : ℕ × ℕ). r.1) sorted (k + 1) (0, 0) d next_low in
           let this = get_or-map (λ (r : ℕ × ℕ). r.1) sorted k (0, 0) d this_low in
-          ap (λ (n : ℕ). comes_first pairs n (get_or (map (λ (r : ℕ × ℕ). r.1) sorted) k d)) next
-          ∙ ap (λ (n : ℕ). comes_first pairs (get_or sorted (k + 1) (0, 0)).1 n) this
+          ap (λ (n : ℕ). branches_before pairs n (get_or (map (λ (r : ℕ × ℕ). r.1) sorted) k d)) next
+          ∙ ap (λ (n : ℕ). branches_before pairs (get_or sorted (k + 1) (0, 0)).1 n) this
           ∙ rank_order pairs (get_or sorted (k + 1) (0, 0)) (get_or sorted k (0, 0)) (ranks_sorted (k + 1) (0, 0) next_low) (ranks_sorted k (0, 0) this_low) (in_order k (0, 0) low next_low);
     }
 
@@ -171,18 +171,18 @@ occurs_first : (x : ℕ) (xs : List ℕ) → 0 < occurs x (x ∷ xs)
 occurs_first x xs = omega (arith, cond-true {A = ℕ} (eqb x x) 1 0 (eq-eqb x x refl))
 
 module _ (pairs : List (ℕ × ℕ)) where
-  sorted_tail : (x : ℕ) (xs : List ℕ) → IsSortedBy (comes_first pairs) (x ∷ xs) → IsSortedBy (comes_first pairs) xs
+  sorted_tail : (x : ℕ) (xs : List ℕ) → IsSortedBy (branches_before pairs) (x ∷ xs) → IsSortedBy (branches_before pairs) xs
   sorted_tail x xs up k d low high =
       let next : suc k + 1 ≡ suc (k + 1) = omega arith in
-      subst (λ (n : ℕ). comes_first pairs (get_or (x ∷ xs) n d) (get_or xs k d) ≡ false) next (up (suc k) d (omega arith) (omega arith))
+      subst (λ (n : ℕ). branches_before pairs (get_or (x ∷ xs) n d) (get_or xs k d) ≡ false) next (up (suc k) d (omega arith) (omega arith))
 
   -- what occurs in a sorted list doesn't come before the first
-  not_before : (x y : ℕ) (xs : List ℕ) → IsSortedBy (comes_first pairs) (x ∷ xs) → 0 < occurs y (x ∷ xs) → comes_first pairs y x ≡ false
+  not_before : (x y : ℕ) (xs : List ℕ) → IsSortedBy (branches_before pairs) (x ∷ xs) → 0 < occurs y (x ∷ xs) → branches_before pairs y x ≡ false
   not_before x y xs up some =
       let place = occurs_place y (x ∷ xs) some in
-      ap (λ (n : ℕ). comes_first pairs n x) (sym place.2) ∙ sorted_far (comes_first pairs) (is_order pairs) (x ∷ xs) up 0 place.0 0 (omega arith) place.1
+      ap (λ (n : ℕ). branches_before pairs n x) (sym place.2) ∙ sorted_far (branches_before pairs) (is_order pairs) (x ∷ xs) up 0 place.0 0 (omega arith) place.1
 
-  same_order : (xs ys : List ℕ) → IsSortedBy (comes_first pairs) xs → IsSortedBy (comes_first pairs) ys → ((y : ℕ) → occurs y ys ≡ occurs y xs) → xs ≡ ys
+  same_order : (xs ys : List ℕ) → IsSortedBy (branches_before pairs) xs → IsSortedBy (branches_before pairs) ys → ((y : ℕ) → occurs y ys ≡ occurs y xs) → xs ≡ ys
   same_order [] [] one two same = refl
   same_order [] (y ∷ ys) one two same = absurd (omega (arith, same y, occurs_first y ys))
   same_order (x ∷ xs) [] one two same = absurd (omega (arith, same x, occurs_first x xs))

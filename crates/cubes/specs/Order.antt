@@ -14,19 +14,19 @@ abbrev pub choices : List (ℕ × ℕ) → ℕ → ℕ
 choices pairs k = length (with_taker pairs (pair_at pairs k).1)
 
 -- the pair with more choices comes first, and of two with as many the one with the smaller number
-abbrev pub comes_first : List (ℕ × ℕ) → ℕ → ℕ → Bool
-comes_first pairs i j =
+abbrev pub branches_before : List (ℕ × ℕ) → ℕ → ℕ → Bool
+branches_before pairs i j =
     nat_lt (choices pairs j) (choices pairs i) || (choices pairs i == choices pairs j && nat_lt i j)
 
 -- each of the first pairs, of which there are so many, once, and none behind one that it comes
 -- before
 pub record IsBranchingOrder (pairs : List (ℕ × ℕ)) (count : ℕ) (order : List ℕ) : Type 0 where
   pub each_once : IsPermutation (range_with_len 0 count) order
-  pub in_order : IsSortedBy (comes_first pairs) order
+  pub in_order : IsSortedBy (branches_before pairs) order
 
 -- the number of pairs with other finders, and that of the pair
-abbrev pub rank_of : List (ℕ × ℕ) → ℕ → ℕ × ℕ
-rank_of pairs k = (length pairs - choices pairs k, k)
+abbrev pub branching_rank_of : List (ℕ × ℕ) → ℕ → ℕ × ℕ
+branching_rank_of pairs k = (length pairs - choices pairs k, k)
 
 -- the variable that says of a pair that it is matched, or of a pair with a probe that this has seen
 -- the send

@@ -2,7 +2,7 @@
 
 ghost use Rattle.std.specs.Prelude.{◌≡◌, ◌≤◌, IfOk, length, map};
 ghost use Rattle.std.specs.List.{range_with_len};
-ghost use Rattle.cubes.specs.Order.{rank_of, IsBranchingOrder};
+ghost use Rattle.cubes.specs.Order.{branching_rank_of, IsBranchingOrder};
 
 use candidates::Pairs;
 use std::alloc::{AllocError, Global};
@@ -10,7 +10,7 @@ use std::alloc::{AllocError, Global};
 /// Of each of the first pairs how many have other takers, and its number, from 0.
 fn ranks(alloc: Global, pairs: &Pairs, count: usize) -> Result<Vec<(usize, usize)>, AllocError>
     requires { count ≤ length pairs.now }
-    ensures { IfOk result (λ ranks. ranks.items ≡ map (rank_of pairs.now) (range_with_len 0 count)) }
+    ensures { IfOk result (λ ranks. ranks.items ≡ map (branching_rank_of pairs.now) (range_with_len 0 count)) }
 {
     let listed = pairs.as_slice();
     let mut ranks = Vec::new(alloc);

@@ -18,7 +18,7 @@ use Rattle.semantics.specs.Machine.{Configuration, after_all, opening, partner_o
 use Rattle.semantics.specs.declared.state.Step.{Step}
 use Rattle.clocks.specs.Clocks.{IsRival, IsUnordered}
 use Rattle.clocks.specs.declared.race.Race as rivals
-use Rattle.deciding.specs.Decisions.{EndsLeast, IsCaller, IsOpen, IsRace, takes_any_source, takes_any_source_call}
+use Rattle.deciding.specs.Decisions.{EndsLeast, IsCaller, IsOpenRace, IsRace, takes_any_source, takes_any_source_call}
 use Rattle.deciding.specs.declared.decision.Caller.{Caller}
 
 -- where two sends fit a pattern that names its source, they are of one rank
@@ -78,7 +78,7 @@ own_fits_rival p e rival send is fit found = own_fits p rival.finder send rival.
 
 open_of : (p : MpiProgram) (e : Configuration) (rival : rivals.Race) (send : ℕ) (finder found other : Caller) → IsRival p e rival → IsUnordered p e rival → EndsLeast p e
     → partner_of e rival.finder ≡ Some send → finder.place ≡ rival.finder → found.place ≡ send → other.place ≡ rival.send
-    → IsOpen p (record { finder = finder; found = found; other = other })
+    → IsOpenRace p (record { finder = finder; found = found; other = other })
 open_of p e rival send finder found other is unordered (run, finished, choice, ends) partner f_at s_at o_at = record {
   run = run;
   finished = finished;

@@ -45,7 +45,7 @@ EndsLeast p e = (run : List Step) × IsFinishedRun p run × BuffersNoneByChoice 
 -- In some run that finishes, and buffers a send only where the policy has each one buffered, the
 -- call found the one send, no call up to it has taken the other one, and no table whose entries are
 -- all justified tells that the other one is issued only where the call has found.
-pub record IsOpen (p : MpiProgram) (race : Race) : Type 0 where
+pub record IsOpenRace (p : MpiProgram) (race : Race) : Type 0 where
   pub run : List Step
   pub finished : IsFinishedRun p run
   pub choice : BuffersNoneByChoice p run
@@ -63,7 +63,7 @@ pub record IsRace (p : MpiProgram) (race : Race) : Type 0 where
   pub found_fits : IsTrue (are_fit p race.found.place race.finder.place)
   pub other_fits : IsTrue (are_fit p race.other.place race.finder.place)
   pub apart : are_of_one_rank p race.found.place race.other.place ≡ false
-  pub untold : IsOpen p race
+  pub untold : IsOpenRace p race
 
 -- What is decided of a program: no run of it gets stuck; the steps are a run of it that does; or
 -- neither, and two messages may race for a call.

@@ -3,7 +3,7 @@
 ghost use Rattle.std.specs.Prelude.{◌+◌, ◌++◌, ◌≡◌, IfOk, OnOk, map};
 ghost use Rattle.std.specs.List.{flat_map};
 ghost use Rattle.plaintext.specs.Plain.{numeral};
-ghost use Rattle.prooflog.specs.Reading.{find_step};
+ghost use Rattle.prooflog.specs.Reading.{written_find_step};
 ghost use Rattle.prooflog.specs.Steps.{step_line, written};
 ghost use Rattle.deciding.specs.Schedules.{issue_step, schedule_text};
 
@@ -35,7 +35,7 @@ fn put_issue(out: &mut Vec<u8>, rank: u32, buffered: bool) -> Result<(), AllocEr
 /// Writes the line of the step by which a finder finds a send: a probe sees it, a taker is matched
 /// with it.
 fn put_find(out: &mut Vec<u8>, sees: bool, send: usize, finder: usize) -> Result<(), AllocError>
-    ensures { OnOk result (out.new.items ≡ out.old.items ++ step_line (find_step sees (send + 1) (finder + 1))) }
+    ensures { OnOk result (out.new.items ≡ out.old.items ++ step_line (written_find_step sees (send + 1) (finder + 1))) }
 {
     out.extend_from_slice(find_word(sees).as_bytes())?;
     out.push(b' ')?;

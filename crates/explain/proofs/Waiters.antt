@@ -8,29 +8,29 @@ use Rattle.semantics.specs.Machine.{Configuration}
 use Rattle.waits.specs.declared.standings.Standing.{Standing}
 use Rattle.waits.specs.declared.standings.Standing.TheVariants.{Finished, Waits, Ready}
 use Rattle.waits.specs.Waiting.{Stands}
-use Rattle.scene.specs.Labels.{Label, call_labels, label_at, labels, rank_of}
-use Rattle.explain.specs.Messages.{AreTold, IsLabelled, IsTold}
+use Rattle.scene.specs.Labels.{Label, call_labels, label_at, labels, caller_rank}
+use Rattle.explain.specs.Messages.{AreNotices, IsLabelled, IsNotice}
 
-told_more : (ls : List Label) (p : MpiProgram) (m : Configuration) (standings : List Standing) (rank : ℕ) (above line new : List ℕ) → AreTold ls p m standings rank above
-    → IsTold ls p m rank (slice_get standings rank) line → new ≡ above ++ line → AreTold ls p m standings (rank + 1) new
+told_more : (ls : List Label) (p : MpiProgram) (m : Configuration) (standings : List Standing) (rank : ℕ) (above line new : List ℕ) → AreNotices ls p m standings rank above
+    → IsNotice ls p m rank (slice_get standings rank) line → new ≡ above ++ line → AreNotices ls p m standings (rank + 1) new
 told_more ls p m standings rank above line new are is both =
-    subst (λ (n : ℕ). AreTold ls p m standings n new) (sym (add-one rank)) (above, line, are, is, both)
+    subst (λ (n : ℕ). AreNotices ls p m standings n new) (sym (add-one rank)) (above, line, are, is, both)
 
 -- one more rank, in a list that is the same
 pub told_next : (ls : List Label) (p : MpiProgram) (m : Configuration) (standings items : List Standing) (rank : ℕ) (d : Standing) (above new : List ℕ) → items ≡ standings → rank < length items
-    → AreTold ls p m standings rank above → ((r : ℕ) (standing : Standing) → slice_get standings r ≡ Some standing → IsLabelled ls standing)
-    → (IsLabelled ls (get_or items rank d) → (line : List ℕ) × IsTold ls p m rank (Some (get_or items rank d)) line × (new ≡ above ++ line))
-    → AreTold ls p m standings (rank + 1) new
+    → AreNotices ls p m standings rank above → ((r : ℕ) (standing : Standing) → slice_get standings r ≡ Some standing → IsLabelled ls standing)
+    → (IsLabelled ls (get_or items rank d) → (line : List ℕ) × IsNotice ls p m rank (Some (get_or items rank d)) line × (new ≡ above ++ line))
+    → AreNotices ls p m standings (rank + 1) new
 told_next ls p m standings items rank d above new same within are labelled told =
     let there : slice_get standings rank ≡ Some (get_or items rank d) =
     ap (λ (l : List Standing). slice_get l rank) (sym same) ∙ slice_get-get_or items rank d within in
     let (line, is, both) = told (labelled rank (get_or items rank d) there) in
-    told_more ls p m standings rank above line new are (subst (λ (standing : Option Standing). IsTold ls p m rank standing line) (sym there) is) both
+    told_more ls p m standings rank above line new are (subst (λ (standing : Option Standing). IsNotice ls p m rank standing line) (sym there) is) both
 
 length_labels : (lines : List (List ℕ)) (numbers : List ℕ) (calls : List Call) (count : ℕ) → length (labels lines numbers calls count) ≡ count
 length_labels lines numbers calls zero = refl
 length_labels lines numbers calls (suc count) =
-    length-append (labels lines numbers calls count) (label_at lines numbers count (rank_of (slice_get calls count)) ∷ [])
+    length-append (labels lines numbers calls count) (label_at lines numbers count (caller_rank (slice_get calls count)) ∷ [])
     ∙ ap (λ (n : ℕ). n + 1) (length_labels lines numbers calls count) ∙ add-one count
 
 own_within : (p : MpiProgram) (rank call : ℕ) (known : Option Call) → call_at p call ≡ known → IsTrue (is_of_rank known rank) → call < length p.calls

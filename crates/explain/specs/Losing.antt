@@ -5,7 +5,7 @@ use Rattle.std.specs.List.{filter}
 use Rattle.callorder.specs.Programs.{MpiProgram}
 use Rattle.balance.specs.declared.counting.Imbalance.{Imbalance}
 use Rattle.balance.specs.Balance.{AreImbalances}
-use Rattle.explain.specs.Often.{BeginsWith}
+use Rattle.explain.specs.Often.{BeginsWithBytes}
 
 abbrev pub has_more_sends : Imbalance → Bool
 has_more_sends sides = nat_lt (length sides.takers.items) (length sides.sends.items)
@@ -25,4 +25,4 @@ pub record TellsLosses (p : MpiProgram) (text : List ℕ) : Type 0 where
   pub losing : List Imbalance
   pub are : AreLosing p losing
   pub none : losing ≡ [] → text ≡ []
-  pub some : (losing ≡ [] → ⊥) → BeginsWith lost_heading text
+  pub some : (losing ≡ [] → ⊥) → BeginsWithBytes lost_heading text

@@ -44,19 +44,19 @@ IsLabelled labels (Waits call) = (label : Label) × (slice_get labels call ≡ S
 IsLabelled labels _ = Unit {0}
 
 -- what is told of a rank that stands so: a line where it waits, else nothing
-abbrev pub IsTold : List Label → MpiProgram → Configuration → ℕ → Option Standing → List ℕ → Type 0
-IsTold labels p m rank (Some (Waits call)) text = IsMessage labels p m rank call text
-IsTold labels p m rank _ text = text ≡ []
+abbrev pub IsNotice : List Label → MpiProgram → Configuration → ℕ → Option Standing → List ℕ → Type 0
+IsNotice labels p m rank (Some (Waits call)) text = IsMessage labels p m rank call text
+IsNotice labels p m rank _ text = text ≡ []
 
 -- what is told of the first ranks, so many, one behind the other
-abbrev pub AreTold : List Label → MpiProgram → Configuration → List Standing → ℕ → List ℕ → Type 0
-AreTold labels p m standings zero text = text ≡ []
-AreTold labels p m standings (suc rank) text =
-    (above : List ℕ) × (line : List ℕ) × AreTold labels p m standings rank above × IsTold labels p m rank (slice_get standings rank) line × (text ≡ above ++ line)
+abbrev pub AreNotices : List Label → MpiProgram → Configuration → List Standing → ℕ → List ℕ → Type 0
+AreNotices labels p m standings zero text = text ≡ []
+AreNotices labels p m standings (suc rank) text =
+    (above : List ℕ) × (line : List ℕ) × AreNotices labels p m standings rank above × IsNotice labels p m rank (slice_get standings rank) line × (text ≡ above ++ line)
 
 -- At the end of the run each rank stands so, and the text has a line for each that waits, in rising
 -- order, and nothing else.
 pub record IsMessages (text : List ℕ) (source : ProgramText) (p : MpiProgram) (steps : List Step) (told : List ℕ) : Type 0 where
   pub standings : List Standing
   pub are : AreStandings p (after_all (opening p) steps) p.ranks standings
-  pub lines : AreTold (call_labels text source p) p (after_all (opening p) steps) standings p.ranks told
+  pub lines : AreNotices (call_labels text source p) p (after_all (opening p) steps) standings p.ranks told

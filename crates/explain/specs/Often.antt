@@ -9,5 +9,5 @@ often_line (frequency.Sometimes steps) = codes "deadlock in some runs; others en
 often_line (frequency.Unknown) = codes "deadlock in every run that was tried; whether others end well isn't known\n"
 
 -- the text begins with these bytes
-abbrev pub BeginsWith : List ℕ → List ℕ → Type 0
-BeginsWith front text = (rest : List ℕ) × (text ≡ front ++ rest)
+abbrev pub BeginsWithBytes : List ℕ → List ℕ → Type 0
+BeginsWithBytes front text = (rest : List ℕ) × (text ≡ front ++ rest)

@@ -2,7 +2,7 @@
 
 ghost use Rattle.std.specs.Prelude.{◌≡◌, IfOk, length, nat_lt, string_bytes};
 ghost use Rattle.explain.specs.Losing.{AreLosing, TellsLosses, has_more_sends, lost_heading};
-ghost use Rattle.explain.specs.Often.{BeginsWith};
+ghost use Rattle.explain.specs.Often.{BeginsWithBytes};
 
 use crate::balancing::{Calls, put_balance};
 use crate::text::MOST_TOLD;
@@ -56,7 +56,7 @@ pub fn lost_messages(
     program: &LongProgram,
     channels: &[Imbalance],
 ) -> Result<String, AllocError>
-    ensures { IfOk result (λ told. BeginsWith lost_heading (string_bytes told)) }
+    ensures { IfOk result (λ told. BeginsWithBytes lost_heading (string_bytes told)) }
 {
     let labels = call_labels(alloc, text, source, program)?;
     let sentences = sentences(alloc, Calls::new(program, &labels), channels)?;

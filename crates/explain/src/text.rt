@@ -3,7 +3,7 @@
 ghost use Rattle.std.specs.Prelude.{◌≡◌, IfOk};
 ghost use Rattle.semantics.specs.Machine.{IsStuckRun};
 ghost use Rattle.frequency.specs.Frequencies.{IsFrequency};
-ghost use Rattle.explain.specs.Often.{BeginsWith, often_line};
+ghost use Rattle.explain.specs.Often.{BeginsWithBytes, often_line};
 
 use crate::alike::{Group, groups_of};
 use crate::balancing::{Calls, put_balance};
@@ -554,7 +554,7 @@ fn often_line(frequency: &Frequency) -> &'static str
 
 /// A text below the line that says whether the deadlock comes in every run.
 fn below_often(alloc: Global, frequency: &Frequency, rest: &str) -> Result<Vec<u8>, AllocError>
-    ensures { IfOk result (λ told. BeginsWith (often_line frequency.now) told.items) }
+    ensures { IfOk result (λ told. BeginsWithBytes (often_line frequency.now) told.items) }
 {
     let often = often_line(frequency);
     let mut told = Vec::from_slice(alloc, often.as_bytes())?;
@@ -656,7 +656,7 @@ pub fn explanation(
 ) -> Result<Vec<u8>, AllocError>
     requires stuck { IsStuckRun program.now steps.now }
     requires frequency { IsFrequency program.now frequency.now }
-    ensures { IfOk result (λ told. BeginsWith (often_line frequency.now) told.items) }
+    ensures { IfOk result (λ told. BeginsWithBytes (often_line frequency.now) told.items) }
 {
     let scene = scene_of(alloc, text, source, program, steps, whole)?;
     let rest = rest_of(alloc, &scene, program, steps, frequency, decided)?;

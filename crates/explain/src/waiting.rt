@@ -7,7 +7,7 @@ ghost use Rattle.waits.specs.Cycles.{HasEdge, awaited_by};
 ghost use Rattle.waits.specs.Waiting.{WaitsFor, operation_of_call};
 ghost use Rattle.scene.specs.Labels.{Label};
 ghost use Rattle.scene.specs.Needs.{IsNeeded};
-ghost use Rattle.explain.specs.Messages.{AreTold, IsLabelled, IsMessage, IsMessages, IsTold, NamesNeeded, need_words, wait_words};
+ghost use Rattle.explain.specs.Messages.{AreNotices, IsLabelled, IsMessage, IsMessages, IsNotice, NamesNeeded, need_words, wait_words};
 
 use callorder::LongProgram;
 use calltext::LongSource;
@@ -130,7 +130,7 @@ fn put_standing(
 ) -> Result<(), AllocError>
     requires { (from to : ℕ) → HasEdge scene.now.awaited.items from to → WaitsFor program.now scene.now.state from to }
     ensures { OnOk result (IsLabelled scene.now.labels.items standing → (line : List ℕ)
-        × IsTold scene.now.labels.items program.now scene.now.state rank (Some standing) line × (out.new.items ≡ out.old.items ++ line)) }
+        × IsNotice scene.now.labels.items program.now scene.now.state rank (Some standing) line × (out.new.items ≡ out.old.items ++ line)) }
 {
     match standing {
         Standing::Waits { call } => put_message(out, program, scene, rank, call),
@@ -145,7 +145,7 @@ fn lines(alloc: Global, program: &LongProgram, scene: &Scene<'_>) -> Result<Vec<
         slice_get scene.now.standings.items rank ≡ Some standing →
         IsLabelled scene.now.labels.items standing }
     ensures { IfOk result (λ told.
-        AreTold scene.now.labels.items program.now scene.now.state scene.now.standings.items (length
+        AreNotices scene.now.labels.items program.now scene.now.state scene.now.standings.items (length
         scene.now.standings.items) told.items) }
 {
     let mut out = Vec::new(alloc);

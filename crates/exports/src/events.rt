@@ -4,7 +4,7 @@ ghost use Rattle.std.specs.Prelude.{◌≡◌, IfOk, get_or, map};
 ghost use Rattle.std.specs.List.{filter};
 ghost use Rattle.candidates.specs.Pairs.{places};
 ghost use Rattle.formula.specs.declared.facts.Event.TheVariants.{Issue as issue_of, Match as match_of};
-ghost use Rattle.formula.specs.Families.{events as events_of, is_finder};
+ghost use Rattle.formula.specs.Families.{events as events_of, finds_message};
 
 use callorder::Program;
 use formula::Event;
@@ -20,7 +20,7 @@ fn issues(alloc: Global, program: &Program) -> Result<Vec<Event>, AllocError>
 }
 
 fn matches(alloc: Global, program: &Program) -> Result<Vec<Event>, AllocError>
-    ensures { IfOk result (λ events. events.items ≡ map match_of (filter (is_finder program.now) (places program.now))) }
+    ensures { IfOk result (λ events. events.items ≡ map match_of (filter (finds_message program.now) (places program.now))) }
 {
     (0..program.calls().len())
         .filter(|call| is_finder(program, *call))

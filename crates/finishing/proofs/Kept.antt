@@ -6,13 +6,13 @@ use Rattle.std.specs.List.{filter_map, list_any, list_all, cons_option, position
 use Rattle.std.proofs.lemmas.List.Sums.{passes_at_first}
 use Rattle.std.proofs.lemmas.Option.{slice_get_within, slice_get-get_or}
 use Rattle.callorder.specs.Programs.{MpiProgram}
-use Rattle.clauses.specs.Clauses.{Literal, TruthAssignment, signed, holds, satisfies, satisfies_clause}
+use Rattle.clauses.specs.Clauses.{Literal, TruthAssignment, signed, makes_true, satisfies, satisfies_clause}
 use Rattle.formula.specs.declared.facts.Fact.TheVariants.{Issued as issued, Buffered as buffered, Matched as matched, Unfinished as unfinished}
 use Rattle.formula.specs.declared.facts.Meaning.{Meaning}
 use Rattle.formula.specs.declared.facts.Meaning.TheVariants.{OfFact as fact, ClockBit as clock_bit, Before as before, SameBits as same_bits}
 use Rattle.formula.specs.declared.facts.Statement.{Statement}
 use Rattle.formula.specs.declared.facts.Statement.TheVariants.{Holds as is_true, Fails as is_false, Earlier as is_earlier}
-use Rattle.formula.specs.Families.{SymbolicClause, events, place_of}
+use Rattle.formula.specs.Families.{SymbolicClause, events, place_of_event}
 use Rattle.formula.specs.Orders.{clock_size, is_so_by, rank_in_time}
 use Rattle.formula.specs.Numbering.{meanings, is_same_meaning, variable_of, literal, literal_of, normal_form, numbered, numbered_order}
 use Rattle.formula.specs.Laws.{holds_if_any, assignment_by}
@@ -79,7 +79,7 @@ stands_for_else p m other =
 abbrev pub says_else : MpiProgram → Statement → Bool
 says_else p (is_true x) = not (is_unfinished_fact x)
 says_else p (is_false x) = true
-says_else p (is_earlier e f) = nat_lt (place_of p e) (place_of p f)
+says_else p (is_earlier e f) = nat_lt (place_of_event p e) (place_of_event p f)
 
 -- some assignment that says of no rank that it is unfinished satisfies the clause
 record IsMet (p : MpiProgram) (clause : List Literal) : Type 0 where
@@ -93,11 +93,11 @@ all_else p v = not (is_unfinished p v)
 
 first_met : (a : TruthAssignment) (o : Option Literal) (clause : List Literal) → holds_if_any a o ≡ true → satisfies_clause a (cons_option o clause) ≡ true
 first_met a None clause h = absurd (cc)
-first_met a (Some l) clause h = or_left (holds a l) (satisfies_clause a clause) h
+first_met a (Some l) clause h = or_left (makes_true a l) (satisfies_clause a clause) h
 
 later_met : (a : TruthAssignment) (o : Option Literal) (clause : List Literal) → satisfies_clause a clause ≡ true → satisfies_clause a (cons_option o clause) ≡ true
 later_met a None clause h = h
-later_met a (Some l) clause h = or_right (holds a l) (satisfies_clause a clause) h
+later_met a (Some l) clause h = or_right (makes_true a l) (satisfies_clause a clause) h
 
 statement_met : (p : MpiProgram) (x : Statement) (clause : List Literal) → says_else p x ≡ true → IsMet p (cons_option (literal_of p x) clause)
 statement_met p (is_true x) clause h =
@@ -105,8 +105,8 @@ statement_met p (is_true x) clause h =
     record { assignment = all_else p; none = λ v e. ap not e; met = first_met (all_else p) (literal_of p (is_true x)) clause (ap not other) }
 statement_met p (is_false x) clause h = record { assignment = λ v. false; none = λ v e. refl; met = refl }
 statement_met p (is_earlier e f) clause h =
-    let low = place_of p e in
-    let high = place_of p f in
+    let low = place_of_event p e in
+    let high = place_of_event p f in
     let there : literal_of p (is_earlier e f) ≡ Some (literal (variable_of p (before low high)) true) =
     ap (λ (b : Bool). if b then Some (literal (variable_of p (before low high)) true) else if nat_lt high low then Some (literal (variable_of p (before high low)) false) else None) h
     in

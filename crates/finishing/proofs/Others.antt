@@ -13,7 +13,7 @@ use Rattle.formula.specs.declared.facts.Fact.TheVariants.{Issued as issued, Buff
 use Rattle.formula.specs.declared.facts.Statement.TheVariants.{Holds as is_true, Fails as is_false, Earlier as is_earlier}
 use Rattle.formula.specs.declared.facts.Condition.{Condition}
 use Rattle.formula.specs.declared.facts.Condition.TheVariants.{AtOnce as at_once, IfMatched as if_matched, IfFetched as if_fetched, IfBufferedOrFetched as if_buffered_or_fetched}
-use Rattle.formula.specs.Families.{SymbolicClause, sends_of, standard_sends, previous, place_of, when_returned, receive_on_handle, unless_issued, where_fetched, where_returned_under, issued_after, handle_is_received_on, fetch_of, is_fetched_before, is_returned_before, issued_after_return_of, issued_before_match, without_later_sends, without_later_pairs, send_is_matched_before, taker_is_matched_before, pair_does_not_wait, issue_does_not_wait, buffered_under, seen_before_taken, see_clauses}
+use Rattle.formula.specs.Families.{SymbolicClause, sends_of, standard_sends, previous_of_rank, place_of_event, when_returned, receive_on_handle, unless_issued, where_fetched, where_returned_under, issued_after, handle_is_received_on, fetch_of, is_fetched_before, is_returned_before, issued_after_return_of, issued_before_match, without_later_sends, without_later_pairs, send_is_matched_before, taker_is_matched_before, pair_does_not_wait, issue_does_not_wait, buffered_under, seen_before_taken, see_clauses}
 use Rattle.formula.specs.Numbering.{numbered}
 use Rattle.formula.proofs.Elements.{Each, each_mono, and_both, all_append}
 use Rattle.formula_from_run.proofs.Events.{place_of_issue}
@@ -32,10 +32,10 @@ order_step p c false below = refl
 order_step p c true below =
     let first = place_of_issue p c (omega (arith, below)) in
     let next = place_of_issue p (suc c) below in
-    let rises : nat_lt (place_of p (issue_of c)) (place_of p (issue_of (suc c))) ≡ true = rw (first, next) (grind (arith, nat_tests)) in
+    let rises : nat_lt (place_of_event p (issue_of c)) (place_of_event p (issue_of (suc c))) ≡ true = rw (first, next) (grind (arith, nat_tests)) in
     and_both _ true (or_last _ rises) refl
 
-in_order : (p : MpiProgram) (c : ℕ) → c < length p.calls → SayElse p (issued_after c (previous p c))
+in_order : (p : MpiProgram) (c : ℕ) → c < length p.calls → SayElse p (issued_after c (previous_of_rank p c))
 in_order p zero below = refl
 in_order p (suc c) below = order_step p c (are_of_one_rank p c (suc c)) below
 
@@ -123,9 +123,9 @@ see p s f =
 pub others_kept : (p : MpiProgram) → Each (λ clauses. AreKept p (numbered p clauses)) (families_of_ended_runs p)
 others_kept p =
     each_mono (SayElse p) (λ clauses. AreKept p (numbered p clauses)) (clauses_kept p) (families_of_ended_runs p) (
-      all_made_range test (λ c. issued_after c (previous p c)) 0 (length p.calls) (length p.calls) (omega arith) (λ c above below. in_order p c below),
+      all_made_range test (λ c. issued_after c (previous_of_rank p c)) 0 (length p.calls) (length p.calls) (omega arith) (λ c above below. in_order p c below),
       (
-        all_made test (λ c. issued_after_return_of p c (previous p c)) (places p) (λ c. after_return p c (previous p c)),
+        all_made test (λ c. issued_after_return_of p c (previous_of_rank p c)) (places p) (λ c. after_return p c (previous_of_rank p c)),
         (
           pairs_hold p test issued_before_match (λ s t taken. refl),
           (
@@ -137,7 +137,7 @@ others_kept p =
                 (
                   pairs_hold p test (pair_does_not_wait p) (λ s t taken. refl),
                   (
-                    all_made test (λ c. issue_does_not_wait p c (previous p c)) (places p) (λ c. issue_waits p c (previous p c)),
+                    all_made test (λ c. issue_does_not_wait p c (previous_of_rank p c)) (places p) (λ c. issue_waits p c (previous_of_rank p c)),
                     (all_made test (buffered_under p.policy) (standard_sends p) (policy p p.policy), (seeing_pairs_hold p test (see_clauses p) (λ s f seen. see p s f), tt)),
                   ),
                 ),

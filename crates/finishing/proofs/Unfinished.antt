@@ -12,7 +12,7 @@ use Rattle.formula.specs.declared.facts.Meaning.{Meaning}
 use Rattle.formula.specs.declared.facts.Meaning.TheVariants.{OfFact as fact}
 use Rattle.formula.specs.declared.facts.Statement.TheVariants.{Holds as is_true}
 use Rattle.formula.specs.Families.{last_calls, rank_of}
-use Rattle.formula.specs.Numbering.{meanings, is_same_meaning, variable_of, literal, comes_first, put, sorted, has_both_signs, literal_of, normal_form}
+use Rattle.formula.specs.Numbering.{meanings, is_same_meaning, variable_of, literal, comes_first, insert_literal, sorted, has_both_signs, literal_of, normal_form}
 use Rattle.formula.proofs.Elements.{and_both, Each, position_within}
 use Rattle.formula.proofs.Meanings.{same_meaning}
 use Rattle.formula.proofs.Named.{IsVariable}
@@ -40,22 +40,22 @@ all_said p (c ∷ cs) named = and_both _ _ (unfinished_said p (rank_of p c) name
 
 -- ---- a test that all literals of a clause pass, they pass in its normal form
 
-put_step : (test : Literal → Bool) (l m : Literal) (clause : List Literal) (s t : Bool) → test l ≡ true → test m ≡ true → list_all test clause ≡ true → list_all test (put l clause) ≡ true → list_all test (if s then m ∷ put l clause else if t then l ∷ m ∷ clause else m ∷ clause) ≡ true
+put_step : (test : Literal → Bool) (l m : Literal) (clause : List Literal) (s t : Bool) → test l ≡ true → test m ≡ true → list_all test clause ≡ true → list_all test (insert_literal l clause) ≡ true → list_all test (if s then m ∷ insert_literal l clause else if t then l ∷ m ∷ clause else m ∷ clause) ≡ true
 put_step test l m clause true t one other rest more = and_both (test m) _ other more
 put_step test l m clause false true one other rest more = and_both (test l) _ one (and_both (test m) _ other rest)
 put_step test l m clause false false one other rest more = and_both (test m) _ other rest
 
-put_passes : (test : Literal → Bool) (l : Literal) (clause : List Literal) → test l ≡ true → list_all test clause ≡ true → list_all test (put l clause) ≡ true
+put_passes : (test : Literal → Bool) (l : Literal) (clause : List Literal) → test l ≡ true → list_all test clause ≡ true → list_all test (insert_literal l clause) ≡ true
 put_passes test l [] one all = and_both (test l) true one refl
 put_passes test l (m ∷ clause) one all =
     let parts = and_parts (test m) (list_all test clause) all in
     put_step test l m clause (comes_first m l) (comes_first l m) one parts.0 parts.1 (put_passes test l clause one parts.1)
 
-sorted_passes : (test : Literal → Bool) (literals clause : List Literal) → list_all test literals ≡ true → list_all test clause ≡ true → list_all test (fold (λ clause l. put l clause) clause literals) ≡ true
+sorted_passes : (test : Literal → Bool) (literals clause : List Literal) → list_all test literals ≡ true → list_all test clause ≡ true → list_all test (fold (λ clause l. insert_literal l clause) clause literals) ≡ true
 sorted_passes test [] clause h all = all
 sorted_passes test (l ∷ literals) clause h all =
     let parts = and_parts (test l) (list_all test literals) h in
-    sorted_passes test literals (put l clause) parts.1 (put_passes test l clause parts.0 all)
+    sorted_passes test literals (insert_literal l clause) parts.1 (put_passes test l clause parts.0 all)
 
 -- ---- the clause
 

@@ -10,10 +10,10 @@ use Rattle.callorder.specs.ProgramRules.{IsProgram}
 use Rattle.callorder.specs.Programs.{MpiProgram}
 use Rattle.clauses.specs.Clauses.{TruthAssignment}
 use Rattle.formula.specs.Facts.{Event, issue_of, match_of, Fact, Meaning, fact, clock_bit, before, same_bits, Statement, is_true, is_false, is_earlier, is_same_event}
-use Rattle.formula.specs.Families.{SymbolicClause, events, event_at, place_of, families_with_orders, last_families, families, said, first_families, sends_are_buffered_as_allowed, probes_see_messages}
+use Rattle.formula.specs.Families.{SymbolicClause, events, event_at, place_of_event, families_with_orders, last_families, families, said, first_families, sends_are_buffered_as_allowed, probes_see_messages}
 use Rattle.formula.specs.Orders.{clock_size, used_pairs, clock_meanings, pair_meanings, order_meanings}
 use Rattle.formula.specs.Numbering.{facts, meanings, is_same_meaning, variable_of, literal}
-use Rattle.formula.specs.Laws.{holds_if_any, IsTold, AgreesByClock, UsedPairsSuffice, AgreesByFact, FactsSuffice, EventsAreListed, StatedEventsAreListed}
+use Rattle.formula.specs.Laws.{holds_if_any, IsOrderTold, AgreesByClock, UsedPairsSuffice, AgreesByFact, FactsSuffice, EventsAreListed, StatedEventsAreListed}
 use Rattle.formula.proofs.Elements.{each_parts, Each, each_from, each_mono, each_both, each_append, each_map, each_flat_map, each_at_test, all_from_each, each_of_all, position_within}
 use Rattle.formula.proofs.Meanings.{same_meaning}
 use Rattle.formula.proofs.Named.{families_of_order, families_of_end, fact_is_named, with_orders_named, sees_named, IsVariable, IsEvent, Named, NamesFact, Clauses, order_named, end_named, policy_names}
@@ -30,7 +30,7 @@ not_itself x = grind (arith, nat_tests)
 same_place : (e f : ℕ) → nat_lt e f ≡ false → nat_lt f e ≡ false → e ≡ f
 same_place e f h k = grind (arith, nat_tests)
 
-earlier_agrees : (p : MpiProgram) (a : TruthAssignment) (clock : ℕ → ℕ) (e f : ℕ) (s t : Bool) → nat_lt e f ≡ s → nat_lt f e ≡ t → (e < f → IsTold p a clock (e, f)) → (f < e → IsTold p a clock (f, e)) → holds_if_any a (if s then Some (literal (variable_of p (before e f)) true) else if t then Some (literal (variable_of p (before f e)) false) else None) ≡ nat_lt (clock e) (clock f)
+earlier_agrees : (p : MpiProgram) (a : TruthAssignment) (clock : ℕ → ℕ) (e f : ℕ) (s t : Bool) → nat_lt e f ≡ s → nat_lt f e ≡ t → (e < f → IsOrderTold p a clock (e, f)) → (f < e → IsOrderTold p a clock (f, e)) → holds_if_any a (if s then Some (literal (variable_of p (before e f)) true) else if t then Some (literal (variable_of p (before f e)) false) else None) ≡ nat_lt (clock e) (clock f)
 earlier_agrees p a clock e f true t h k first second = (first (ltb-true e f h)).1
 earlier_agrees p a clock e f false true h k first second =
     let told = second (ltb-true f e k) in
@@ -41,12 +41,12 @@ earlier_agrees p a clock e f false false h k first second =
 equal_places : (a b : ℕ) → (a == b) ≡ true → a ≡ b
 equal_places a b h = grind (arith, nat_tests)
 
-told_at : (p : MpiProgram) (a : TruthAssignment) (clock : ℕ → ℕ) → Each (IsTold p a clock) (used_pairs p) → (e f : ℕ) → IsUsed p e f → IsTold p a clock (e, f)
+told_at : (p : MpiProgram) (a : TruthAssignment) (clock : ℕ → ℕ) → Each (IsOrderTold p a clock) (used_pairs p) → (e f : ℕ) → IsUsed p e f → IsOrderTold p a clock (e, f)
 told_at p a clock told e f used =
-    let found = each_at_test (IsTold p a clock) (is_pair e f) (used_pairs p) told used in
+    let found = each_at_test (IsOrderTold p a clock) (is_pair e f) (used_pairs p) told used in
     let parts = and_parts (e == found.0.0) (f == found.0.1) found.1 in
-    subst (λ (z : ℕ). IsTold p a clock (z, f)) (sym (equal_places e found.0.0 parts.0))
-    (subst (λ (z : ℕ). IsTold p a clock (found.0.0, z)) (sym (equal_places f found.0.1 parts.1)) found.2)
+    subst (λ (z : ℕ). IsOrderTold p a clock (z, f)) (sym (equal_places e found.0.0 parts.0))
+    (subst (λ (z : ℕ). IsOrderTold p a clock (found.0.0, z)) (sym (equal_places f found.0.1 parts.1)) found.2)
 
 -- ---- statements
 
@@ -55,13 +55,13 @@ fact_agrees p a clock (is_true y) h = tt
 fact_agrees p a clock (is_false y) h = tt
 fact_agrees p a clock (is_earlier e f) h = absurd h
 
-stated_agrees : (p : MpiProgram) (a : TruthAssignment) (clock : ℕ → ℕ) → Each (IsTold p a clock) (used_pairs p) → (x : Statement) → Named p x → IsStated p x → AgreesByClock p a clock x
+stated_agrees : (p : MpiProgram) (a : TruthAssignment) (clock : ℕ → ℕ) → Each (IsOrderTold p a clock) (used_pairs p) → (x : Statement) → Named p x → IsStated p x → AgreesByClock p a clock x
 stated_agrees p a clock told (is_true y) h k = tt
 stated_agrees p a clock told (is_false y) h k = tt
 stated_agrees p a clock told (is_earlier e f) h k =
-    earlier_agrees p a clock (place_of p e) (place_of p f) (nat_lt (place_of p e) (place_of p f)) (nat_lt (place_of p f) (place_of p e)) refl refl
-    (λ first. told_at p a clock told (place_of p e) (place_of p f) (used_where_first p e f h.1 k first))
-    (λ first. told_at p a clock told (place_of p f) (place_of p e) (used_where_second p e f h.0 k first))
+    earlier_agrees p a clock (place_of_event p e) (place_of_event p f) (nat_lt (place_of_event p e) (place_of_event p f)) (nat_lt (place_of_event p f) (place_of_event p e)) refl refl
+    (λ first. told_at p a clock told (place_of_event p e) (place_of_event p f) (used_where_first p e f h.1 k first))
+    (λ first. told_at p a clock told (place_of_event p f) (place_of_event p e) (used_where_second p e f h.0 k first))
 
 -- ---- families
 
@@ -74,13 +74,13 @@ facts_agree p a clock clauses h =
     all_from_each (All P) clauses
     (each_mono (Each (NamesFact p)) (All P) (λ clause k. all_from_each P clause (each_mono (NamesFact p) P (fact_agrees p a clock) clause k)) clauses h)
 
-clause_agrees : (p : MpiProgram) (a : TruthAssignment) (clock : ℕ → ℕ) → Each (IsTold p a clock) (used_pairs p) → (clause : SymbolicClause) → Each (Named p) clause → Each (IsStated p) clause → All (AgreesByClock p a clock) clause
+clause_agrees : (p : MpiProgram) (a : TruthAssignment) (clock : ℕ → ℕ) → Each (IsOrderTold p a clock) (used_pairs p) → (clause : SymbolicClause) → Each (Named p) clause → Each (IsStated p) clause → All (AgreesByClock p a clock) clause
 clause_agrees p a clock told clause h k =
     all_from_each (AgreesByClock p a clock) clause
     (each_mono (λ x. Named p x × IsStated p x) (AgreesByClock p a clock) (λ x both. stated_agrees p a clock told x both.0 both.1) clause
     (each_both (Named p) (IsStated p) clause h k))
 
-clauses_agree : (p : MpiProgram) (a : TruthAssignment) (clock : ℕ → ℕ) → Each (IsTold p a clock) (used_pairs p) → (clauses : List SymbolicClause) → Clauses (Named p) clauses → Clauses (IsStated p) clauses → AllAgree p a clock clauses
+clauses_agree : (p : MpiProgram) (a : TruthAssignment) (clock : ℕ → ℕ) → Each (IsOrderTold p a clock) (used_pairs p) → (clauses : List SymbolicClause) → Clauses (Named p) clauses → Clauses (IsStated p) clauses → AllAgree p a clock clauses
 clauses_agree p a clock told clauses h k =
     all_from_each (All (AgreesByClock p a clock)) clauses
     (each_mono (λ c. Each (Named p) c × Each (IsStated p) c) (All (AgreesByClock p a clock)) (λ c both. clause_agrees p a clock told c both.0 both.1) clauses
@@ -91,7 +91,7 @@ used_pairs_suffice p a clock is told =
     let A = AllAgree p a clock in
     let policy = sends_are_buffered_as_allowed p in
     let sees = probes_see_messages p in
-    let each = each_of_all (IsTold p a clock) (used_pairs p) told in
+    let each = each_of_all (IsOrderTold p a clock) (used_pairs p) told in
     let with_orders : Each A (families_with_orders p) =
     each_mono (λ c. Clauses (Named p) c × Clauses (IsStated p) c) A (λ c both. clauses_agree p a clock each c both.0 both.1) (families_with_orders p)
     (each_both (Clauses (Named p)) (Clauses (IsStated p)) (families_with_orders p) (with_orders_named p is) (orders_stated p)) in
@@ -125,9 +125,9 @@ same_event (match_of c) (match_of d) h = ap match_of (equal_places c d h)
 same_event (issue_of c) (match_of d) h = absurd cc
 same_event (match_of c) (issue_of d) h = absurd cc
 
-event_listed : (p : MpiProgram) (e : Event) → IsEvent p e → event_at p (place_of p e) ≡ e
+event_listed : (p : MpiProgram) (e : Event) → IsEvent p e → event_at p (place_of_event p e) ≡ e
 event_listed p e h =
-    sym (same_event e (event_at p (place_of p e)) (passes_at_first (is_same_event e) (events p) (issue_of 0) (position_within (is_same_event e) (events p) h)))
+    sym (same_event e (event_at p (place_of_event p e)) (passes_at_first (is_same_event e) (events p) (issue_of 0) (position_within (is_same_event e) (events p) h)))
 
 named_listed : (p : MpiProgram) (x : Statement) → Named p x → EventsAreListed p x
 named_listed p (is_true y) h = tt

@@ -5,12 +5,12 @@ use Rattle.std.specs.List.{flat_map, list_any}
 use Rattle.std.proofs.lemmas.Bool.Decides.{nat_tests}
 use Rattle.std.proofs.lemmas.List.Folds.{list_all-append}
 use Rattle.callorder.specs.Programs.{MpiProgram}
-use Rattle.clauses.specs.Clauses.{TruthAssignment, holds, satisfies_clause, satisfies}
+use Rattle.clauses.specs.Clauses.{TruthAssignment, makes_true, satisfies_clause, satisfies}
 use Rattle.formula.specs.Facts.{Fact, Meaning, clock_bit, before, same_bits}
 use Rattle.formula.specs.Families.{events}
 use Rattle.formula.specs.Orders.{clock_size, first_bits, bit_of, used_pairs, order_meanings, SignedMeaning, pair_clauses, order_clauses, is_so_by}
 use Rattle.formula.specs.Numbering.{is_same_meaning, variable_of, in_normal_form, literal_of_signed}
-use Rattle.formula.specs.Laws.{ClocksSuffice, clock_in, IsTold, OrderGivesClocks, Means, ClocksGiveOrder}
+use Rattle.formula.specs.Laws.{ClocksSuffice, clock_in, IsOrderTold, OrderGivesClocks, Means, ClocksGiveOrder}
 use Rattle.formula.proofs.Elements.{any_map, Each, each_mono, each_both, each_at_test, each_from_all, all_flat_map, all_from_each, each_of_all}
 use Rattle.formula.proofs.NormalForms.{in_normal_form_means}
 use Rattle.formula.proofs.Bits.{first_bits_of, all_bits_of, bits_for_enough, bits_for_two}
@@ -30,7 +30,7 @@ order_means : (p : MpiProgram) (a : TruthAssignment) (clauses : List (List Signe
 order_means p a [] = refl
 order_means p a (clause ∷ clauses) =
     list_all-append (satisfies_clause a) (in_normal_form (map (literal_of_signed p) clause)) (flat_map (λ c. in_normal_form (map (literal_of_signed p) c)) clauses) ∙
-    ap (λ z. z && satisfies a (flat_map (λ c. in_normal_form (map (literal_of_signed p) c)) clauses)) (in_normal_form_means a (map (literal_of_signed p) clause) ∙ any_map (holds a) (literal_of_signed p) clause) ∙
+    ap (λ z. z && satisfies a (flat_map (λ c. in_normal_form (map (literal_of_signed p) c)) clauses)) (in_normal_form_means a (map (literal_of_signed p) clause) ∙ any_map (makes_true a) (literal_of_signed p) clause) ∙
     ap (λ z. list_any (says (value_in p a)) clause && z) (order_means p a clauses)
 
 -- ---- from the clauses to clocks
@@ -38,7 +38,7 @@ order_means p a (clause ∷ clauses) =
 some_bit : (p : MpiProgram) (e f : ℕ) → e < f → f < length (events p) → 0 < clock_size p
 some_bit p e f first below = bits_for_two (length (events p)) (omega (arith, first, below))
 
-told_of : (p : MpiProgram) (a : TruthAssignment) (e f : ℕ) → e < f → f < length (events p) → are_so (value_in p a) (pair_clauses (clock_size p) (e, f)) ≡ true → IsTold p a (clock_in p a) (e, f)
+told_of : (p : MpiProgram) (a : TruthAssignment) (e f : ℕ) → e < f → f < length (events p) → are_so (value_in p a) (pair_clauses (clock_size p) (e, f)) ≡ true → IsOrderTold p a (clock_in p a) (e, f)
 told_of p a e f first below h =
     let c = pair_compared (value_in p a) (clock_size p) e f (some_bit p e f first below) h in (c.differ, c.tells)
 
@@ -48,10 +48,10 @@ order_gives_clocks p a h =
     let size = clock_size p in
     let P : ℕ × ℕ → Type 0 = λ q. are_so value (pair_clauses size q) ≡ true in
     let said : Each P (used_pairs p) = each_from_all (list_any (says value)) (pair_clauses size) (used_pairs p) (sym (order_means p a (order_clauses p)) ∙ h) in
-    all_from_each (IsTold p a (clock_in p a)) (used_pairs p)
-    (each_mono (λ q. P q × (P q → IsTold p a (clock_in p a) q)) (IsTold p a (clock_in p a)) (λ q both. both.1 both.0) (used_pairs p)
-    (each_both P (λ q. P q → IsTold p a (clock_in p a) q) (used_pairs p) said
-    (each_used p (λ q. P q → IsTold p a (clock_in p a) q) (λ e f first below used. told_of p a e f first below))))
+    all_from_each (IsOrderTold p a (clock_in p a)) (used_pairs p)
+    (each_mono (λ q. P q × (P q → IsOrderTold p a (clock_in p a) q)) (IsOrderTold p a (clock_in p a)) (λ q both. both.1 both.0) (used_pairs p)
+    (each_both P (λ q. P q → IsOrderTold p a (clock_in p a) q) (used_pairs p) said
+    (each_used p (λ q. P q → IsOrderTold p a (clock_in p a) q) (λ e f first below used. told_of p a e f first below))))
 
 -- ---- from clocks to the clauses
 
@@ -108,10 +108,10 @@ clocks_give_order p a has clock fits differ told =
           (each_mono (λ q. D q × (D q → S q)) S (λ q both. both.1 both.0) (used_pairs p)
           (each_both D (λ q. D q → S q) (used_pairs p) apart
           (each_used p (λ q. D q → S q) (λ e f first below used d. pair_of_clocks p a has clock fits each e f first below used d)))),
-      all_from_each (IsTold p a clock) (used_pairs p)
-          (each_mono (λ q. D q × (D q → IsTold p a clock q)) (IsTold p a clock) (λ q both. both.1 both.0) (used_pairs p)
-          (each_both D (λ q. D q → IsTold p a clock q) (used_pairs p) apart
-          (each_used p (λ q. D q → IsTold p a clock q) (λ e f first below used d. (
+      all_from_each (IsOrderTold p a clock) (used_pairs p)
+          (each_mono (λ q. D q × (D q → IsOrderTold p a clock q)) (IsOrderTold p a clock) (λ q both. both.1 both.0) (used_pairs p)
+          (each_both D (λ q. D q → IsOrderTold p a clock q) (used_pairs p) apart
+          (each_used p (λ q. D q → IsOrderTold p a clock q) (λ e f first below used d. (
             d,
             meaning_told p a (is_so_by has (clock_size p) clock) each (before e f) (before_stands p e f used),
           ))))),

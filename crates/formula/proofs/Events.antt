@@ -9,7 +9,7 @@ use Rattle.std.specs.List.{filter, range_with_len}
 use Rattle.callorder.specs.Programs.{MpiProgram}
 use Rattle.candidates.specs.Pairs.{places}
 use Rattle.formula.specs.Facts.{Event, issue_of, match_of, is_same_event}
-use Rattle.formula.specs.Families.{events, event_at, is_finder}
+use Rattle.formula.specs.Families.{events, event_at, finds_message}
 use Rattle.formula.specs.Laws.{EventsStandOnce}
 
 issues_size : (p : MpiProgram) → length (map issue_of (places p)) ≡ length p.calls
@@ -18,7 +18,7 @@ issues_size p = length-map-range_with_len issue_of 0 (length p.calls)
 -- the issues stand first, in call order
 pub issue_at : (p : MpiProgram) (k : ℕ) → k < length p.calls → event_at p k ≡ issue_of k
 issue_at p k below =
-    get_or_append_left (map issue_of (places p)) (map match_of (filter (is_finder p) (places p))) (issue_of 0) k (omega (arith, issues_size p, below)) ∙
+    get_or_append_left (map issue_of (places p)) (map match_of (filter (finds_message p) (places p))) (issue_of 0) k (omega (arith, issues_size p, below)) ∙
     get_or-map-range_with_len issue_of 0 (length p.calls) k k (issue_of 0) below (omega arith)
 
 -- ---- each event stands in the list once
@@ -43,15 +43,15 @@ kept_rise : (keep : ℕ → Bool) (low n k j : ℕ) → k < j → j < length (fi
 kept_rise keep low zero k j first below = absurd (omega arith)
 kept_rise keep low (suc n) k j first below = kept_rise_step keep low n (keep low) (λ k j. kept_rise keep (low + 1) n k j) k j first below
 
-pub events_size : (p : MpiProgram) → length (events p) ≡ length p.calls + length (filter (is_finder p) (places p))
+pub events_size : (p : MpiProgram) → length (events p) ≡ length p.calls + length (filter (finds_message p) (places p))
 events_size p =
-    omega (arith, length-append (map issue_of (places p)) (map match_of (filter (is_finder p) (places p))), issues_size p, length-map (filter (is_finder p) (places p)) match_of)
+    omega (arith, length-append (map issue_of (places p)) (map match_of (filter (finds_message p) (places p))), issues_size p, length-map (filter (finds_message p) (places p)) match_of)
 
 -- behind the issues stand the matches, in call order
-match_at : (p : MpiProgram) (k : ℕ) → length p.calls ≤ k → k < length (events p) → event_at p k ≡ match_of (get_or (filter (is_finder p) (places p)) (k - length p.calls) 0)
+match_at : (p : MpiProgram) (k : ℕ) → length p.calls ≤ k → k < length (events p) → event_at p k ≡ match_of (get_or (filter (finds_message p) (places p)) (k - length p.calls) 0)
 match_at p k from below =
-    get_or-append_right (map issue_of (places p)) (map match_of (filter (is_finder p) (places p))) (length p.calls) k (issue_of 0) (issues_size p) from ∙
-    get_or-map match_of (filter (is_finder p) (places p)) (k - length p.calls) 0 (issue_of 0) (omega (arith, events_size p, from, below))
+    get_or-append_right (map issue_of (places p)) (map match_of (filter (finds_message p) (places p))) (length p.calls) k (issue_of 0) (issues_size p) from ∙
+    get_or-map match_of (filter (finds_message p) (places p)) (k - length p.calls) 0 (issue_of 0) (omega (arith, events_size p, from, below))
 
 same_as_itself : (e : Event) → is_same_event e e ≡ true
 same_as_itself (issue_of c) = grind (arith, nat_tests)
@@ -65,7 +65,7 @@ unlike_earlier p k i first below =
           elim (cases_lt k (length p.calls)) [
             | inl early ↦ rw (match_at p i (omega (arith, late)) below, issue_at p k early) refl
             | inr also_late ↦
-                let rise = kept_rise (is_finder p) 0 (length p.calls) (k - length p.calls) (i - length p.calls) (omega (arith, also_late)) (omega (arith, events_size p, late, below)) in
+                let rise = kept_rise (finds_message p) 0 (length p.calls) (k - length p.calls) (i - length p.calls) (omega (arith, also_late)) (omega (arith, events_size p, late, below)) in
                 rw (match_at p i (omega (arith, late)) below, match_at p k (omega (arith, also_late)) (omega (arith, below))) (grind (arith, nat_tests))
           ]
     ]

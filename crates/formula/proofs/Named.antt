@@ -20,7 +20,7 @@ use Rattle.callorder.specs.Programs.{is_probe, takes, sees, MpiProgram, call_at,
 use Rattle.candidates.specs.Pairs.{places, takers_of, probes_of, matching_pairs, seeing_pairs}
 use Rattle.nonovertake.specs.Earlier.{earlier_sends, earlier_takers}
 use Rattle.formula.specs.Facts.{Event, issue_of, match_of, Fact, issued, buffered, matched, unfinished, Meaning, fact, Statement, is_true, is_false, is_earlier, is_same_event}
-use Rattle.formula.specs.Families.{without_later_sends, seen_before_taken, see_clauses, families_with_orders, sends_of, is_finder_call, is_finder, is_standard_kind, is_standard_call, is_standard, standard_sends, receive_of_call, receive_on_handle, previous, last_calls, rank_of, events, event_of_fetch, fetch_of, Condition, at_once, if_matched, if_fetched, if_buffered_or_fetched, when_done_kind, when_done_call, when_done, if_blocking, when_returned_kind, when_returned_call, when_returned, SymbolicClause, unless_issued, where_fetched, where_returned_under, where_returned, issued_after, handle_is_received_on, is_fetched_before, is_returned_before, issued_after_return_of, issued_before_match, without_later_pairs, send_is_matched_before, taker_is_matched_before, pair_does_not_wait, issue_does_not_wait, buffered_under, said, first_families, family_of, probes_see_messages, calls_are_issued_in_order, calls_are_issued_after_returns, matches_come_after_issues, calls_are_matched_once, sends_do_not_overtake, takers_do_not_overtake, no_pair_waits, no_issue_waits, some_rank_is_unfinished, sends_are_buffered_as_allowed}
+use Rattle.formula.specs.Families.{without_later_sends, seen_before_taken, see_clauses, families_with_orders, sends_of, call_finds_message, finds_message, is_standard_kind, is_standard_call, is_standard, standard_sends, receive_of_call, receive_on_handle, previous_of_rank, last_calls, rank_of, events, event_of_fetch, fetch_of, Condition, at_once, if_matched, if_fetched, if_buffered_or_fetched, when_done_kind, when_done_call, when_done, if_blocking, when_returned_kind, when_returned_call, when_returned, SymbolicClause, unless_issued, where_fetched, where_returned_under, where_returned, issued_after, handle_is_received_on, is_fetched_before, is_returned_before, issued_after_return_of, issued_before_match, without_later_pairs, send_is_matched_before, taker_is_matched_before, pair_does_not_wait, issue_does_not_wait, buffered_under, said, first_families, family_of, probes_see_messages, calls_are_issued_in_order, calls_are_issued_after_returns, matches_come_after_issues, calls_are_matched_once, sends_do_not_overtake, takers_do_not_overtake, no_pair_waits, no_issue_waits, some_rank_is_unfinished, sends_are_buffered_as_allowed}
 use Rattle.formula.specs.Orders.{order_meanings}
 use Rattle.formula.specs.Numbering.{facts, meanings, is_same_fact, is_same_meaning}
 use Rattle.formula.proofs.Elements.{each_mono, and_both, Each, each_append, each_map, each_flat_map, each_filter, each_range, any_append_left, any_append_right, any_map, any_flat_map, any_filter, any_range}
@@ -153,13 +153,13 @@ issue_named p c below =
     any_append_left test (map issue_of (places p)) _
     (any_map test issue_of (places p) ∙ any_place p (λ d. c == d) c below (equal_self c))
 
-match_named : (p : MpiProgram) (t : ℕ) → t < length p.calls → is_finder p t ≡ true → IsEvent p (match_of t)
+match_named : (p : MpiProgram) (t : ℕ) → t < length p.calls → finds_message p t ≡ true → IsEvent p (match_of t)
 match_named p t below taker =
     let test : Event → Bool = is_same_event (match_of t) in
     any_append_right test (map issue_of (places p)) _
-    (any_map test match_of (filter (is_finder p) (places p)) ∙
-    (any_filter (λ d. t == d) (is_finder p) (places p) ∙
-    any_place p (λ d. is_finder p d && t == d) t below (and_both (is_finder p t) (t == t) taker (equal_self t))))
+    (any_map test match_of (filter (finds_message p) (places p)) ∙
+    (any_filter (λ d. t == d) (finds_message p) (places p) ∙
+    any_place p (λ d. finds_message p d && t == d) t below (and_both (finds_message p t) (t == t) taker (equal_self t))))
 
 event_is_itself : (e : Event) → is_same_event e e ≡ true
 event_is_itself (issue_of c) = equal_self c
@@ -172,12 +172,12 @@ taker_between sender taker None pattern h = absurd cc
 taker_between sender taker (Some message) None h = absurd cc
 taker_between sender taker (Some message) (Some pattern) h = refl
 
-taker_of_fit : (send taker : Option Call) → both_hold fits send taker ≡ true → is_finder_call taker ≡ true
+taker_of_fit : (send taker : Option Call) → both_hold fits send taker ≡ true → call_finds_message taker ≡ true
 taker_of_fit None taker h = absurd cc
 taker_of_fit (Some send) None h = absurd cc
 taker_of_fit (Some send) (Some taker) h = taker_between send.rank taker.rank (message_of send.kind) (pattern_of taker.kind) h
 
-pair_taker : (p : MpiProgram) (s t : ℕ) → IsPair p s t → is_finder p t ≡ true
+pair_taker : (p : MpiProgram) (s t : ℕ) → IsPair p s t → finds_message p t ≡ true
 pair_taker p s t pair = taker_of_fit (call_at p s) (call_at p t) pair.2
 
 each_taker : (p : MpiProgram) (P : ℕ → Type 0) (s : ℕ) → s < length p.calls → ((t : ℕ) → IsPair p s t → P t) → Each P (takers_of p s)
@@ -228,7 +228,7 @@ handle_step p is t (Some r) e = handle_within p is t r (call_at p t) refl e
 handle_named : (p : MpiProgram) → IsProgram p → (t : ℕ) → IsCallIfAny p (receive_on_handle p t)
 handle_named p is t = handle_step p is t (receive_on_handle p t) refl
 
-fetch_named : (p : MpiProgram) (t : ℕ) (o : Option ℕ) → t < length p.calls → is_finder p t ≡ true → IsCallIfAny p o → IsEvent p (event_of_fetch o t)
+fetch_named : (p : MpiProgram) (t : ℕ) (o : Option ℕ) → t < length p.calls → finds_message p t ≡ true → IsCallIfAny p o → IsEvent p (event_of_fetch o t)
 fetch_named p t None below taker h = match_named p t below taker
 fetch_named p t (Some r) below taker h = issue_named p r h
 
@@ -240,14 +240,14 @@ previous_step : (p : MpiProgram) (c : ℕ) (b : Bool) → c < length p.calls →
 previous_step p c true h = h
 previous_step p c false h = tt
 
-previous_within : (p : MpiProgram) (c : ℕ) → c < length p.calls → IsCallIfAny p (previous p c)
+previous_within : (p : MpiProgram) (c : ℕ) → c < length p.calls → IsCallIfAny p (previous_of_rank p c)
 previous_within p zero below = tt
 previous_within p (suc c) below = previous_step p c (are_of_one_rank p c (suc c)) (omega (arith, below))
 
 -- the condition names calls of the right kind
 abbrev IsRight : MpiProgram → Condition → Type 0
 IsRight p at_once = Unit {0}
-IsRight p (if_matched t) = (t < length p.calls) × (is_finder p t ≡ true)
+IsRight p (if_matched t) = (t < length p.calls) × (finds_message p t ≡ true)
 IsRight p (if_fetched s) = s < length p.calls
 IsRight p (if_buffered_or_fetched s) = (s < length p.calls) × (is_standard p s ≡ true)
 
@@ -255,9 +255,9 @@ done_kind_right : (p : MpiProgram) (o : ℕ) (call : Call) (kind : Kind ℕ) →
 done_kind_right p o call (Send Standard blocking message) e f = (slice_get_within p.calls o call e, ap is_standard_call e ∙ ap is_standard_kind f)
 done_kind_right p o call (Send Synchronous blocking message) e f = slice_get_within p.calls o call e
 done_kind_right p o call (Send Buffered blocking message) e f = tt
-done_kind_right p o call (Receive blocking pattern) e f = (slice_get_within p.calls o call e, ap is_finder_call e ∙ ap (λ k. is_some (pattern_of k)) f)
-done_kind_right p o call (MatchedProbe pattern receive) e f = (slice_get_within p.calls o call e, ap is_finder_call e ∙ ap (λ k. is_some (pattern_of k)) f)
-done_kind_right p o call (Probe pattern) e f = (slice_get_within p.calls o call e, ap is_finder_call e ∙ ap (λ k. is_some (pattern_of k)) f)
+done_kind_right p o call (Receive blocking pattern) e f = (slice_get_within p.calls o call e, ap call_finds_message e ∙ ap (λ k. is_some (pattern_of k)) f)
+done_kind_right p o call (MatchedProbe pattern receive) e f = (slice_get_within p.calls o call e, ap call_finds_message e ∙ ap (λ k. is_some (pattern_of k)) f)
+done_kind_right p o call (Probe pattern) e f = (slice_get_within p.calls o call e, ap call_finds_message e ∙ ap (λ k. is_some (pattern_of k)) f)
 done_kind_right p o call (MatchedReceive blocking) e f = tt
 done_kind_right p o call (Wait operation) e f = tt
 
@@ -315,7 +315,7 @@ issued_after_named p c (Some e) below h =
 
 issue_order_named : (p : MpiProgram) → Clauses (Named p) (calls_are_issued_in_order p)
 issue_order_named p =
-    each_call p (Named p) (λ c. issued_after c (previous p c)) (λ c below. issued_after_named p c (previous p c) below (previous_within p c below))
+    each_call p (Named p) (λ c. issued_after c (previous_of_rank p c)) (λ c below. issued_after_named p c (previous_of_rank p c) below (previous_within p c below))
 
 received_named : (p : MpiProgram) (c s t : ℕ) (otherwise : SymbolicClause) (o : Option ℕ) → c < length p.calls → IsPair p s t → Each (Named p) otherwise → IsCallIfAny p o → Clauses (Named p) (handle_is_received_on c s t otherwise o)
 received_named p c s t otherwise None below pair rest h = tt
@@ -355,7 +355,7 @@ return_order_step p is c None below = tt
 return_order_step p is c (Some e) below = returned_before_named p is c (when_returned p e) below (returned_right p e)
 
 return_order_named : (p : MpiProgram) → IsProgram p → Clauses (Named p) (calls_are_issued_after_returns p)
-return_order_named p is = each_call p (Named p) (λ c. issued_after_return_of p c (previous p c)) (λ c below. return_order_step p is c (previous p c) below)
+return_order_named p is = each_call p (Named p) (λ c. issued_after_return_of p c (previous_of_rank p c)) (λ c below. return_order_step p is c (previous_of_rank p c) below)
 
 issued_before_named : (p : MpiProgram) (s t : ℕ) → IsPair p s t → Clauses (Named p) (issued_before_match s t)
 issued_before_named p s t pair =
@@ -459,7 +459,7 @@ no_issue_step p is c (Some e) below h = where_returned_named p is e (is_true (is
 
 no_issue_waits_named : (p : MpiProgram) → IsProgram p → Clauses (NamesFact p) (no_issue_waits p)
 no_issue_waits_named p is =
-    each_call p (NamesFact p) (λ c. issue_does_not_wait p c (previous p c)) (λ c below. no_issue_step p is c (previous p c) below (previous_within p c below))
+    each_call p (NamesFact p) (λ c. issue_does_not_wait p c (previous_of_rank p c)) (λ c below. no_issue_step p is c (previous_of_rank p c) below (previous_within p c below))
 
 each_last : (p : MpiProgram) (P : ℕ → Type 0) → ((c : ℕ) → c < length p.calls → not (are_of_one_rank p c (c + 1)) ≡ true → P c) → Each P (last_calls p)
 each_last p P h =

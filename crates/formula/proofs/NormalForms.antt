@@ -5,11 +5,11 @@ use Rattle.std.specs.List.{filter_map, flat_map, cons_option, fold, list_any, li
 use Rattle.std.proofs.lemmas.Bool.Decides.{nat_tests}
 use Rattle.std.proofs.lemmas.List.Folds.{list_all-append}
 use Rattle.callorder.specs.Programs.{MpiProgram}
-use Rattle.clauses.specs.Clauses.{Literal, TruthAssignment, signed, holds, rises_above, rises, satisfies_clause, satisfies}
+use Rattle.clauses.specs.Clauses.{Literal, TruthAssignment, signed, makes_true, rises_above, rises, satisfies_clause, satisfies}
 use Rattle.formula.specs.Facts.{Statement, is_true, is_false, is_earlier}
-use Rattle.formula.specs.Families.{SymbolicClause, last_families, place_of, said, first_families}
+use Rattle.formula.specs.Families.{SymbolicClause, last_families, place_of_event, said, first_families}
 use Rattle.formula.specs.Orders.{SignedMeaning, order_clauses}
-use Rattle.formula.specs.Numbering.{comes_first, put, sorted, has_both_signs, literal_of, in_normal_form, normal_form, numbered, literal_of_signed, numbered_order}
+use Rattle.formula.specs.Numbering.{comes_first, insert_literal, sorted, has_both_signs, literal_of, in_normal_form, normal_form, numbered, literal_of_signed, numbered_order}
 use Rattle.formula.proofs.Elements.{and_both, all_append, all_flat_map, each_from}
 use Rattle.formula.specs.Laws.{holds_if_any, Agrees, NumberedClausesMeanSymbolic, ClausesRise}
 
@@ -38,12 +38,12 @@ or_same false false c e = refl
 or_same true false c e = absurd cc
 or_same false true c e = absurd cc
 
-put_step : (a : TruthAssignment) (l m : Literal) (clause : List Literal) (s t : Bool) → comes_first m l ≡ s → comes_first l m ≡ t → satisfies_clause a (put l clause) ≡ (holds a l || satisfies_clause a clause) → satisfies_clause a (if s then m ∷ put l clause else if t then l ∷ m ∷ clause else m ∷ clause) ≡ (holds a l || (holds a m || satisfies_clause a clause))
-put_step a l m clause true t e f rest = ap (λ z. holds a m || z) rest ∙ or_swap (holds a m) (holds a l) (satisfies_clause a clause)
+put_step : (a : TruthAssignment) (l m : Literal) (clause : List Literal) (s t : Bool) → comes_first m l ≡ s → comes_first l m ≡ t → satisfies_clause a (insert_literal l clause) ≡ (makes_true a l || satisfies_clause a clause) → satisfies_clause a (if s then m ∷ insert_literal l clause else if t then l ∷ m ∷ clause else m ∷ clause) ≡ (makes_true a l || (makes_true a m || satisfies_clause a clause))
+put_step a l m clause true t e f rest = ap (λ z. makes_true a m || z) rest ∙ or_swap (makes_true a m) (makes_true a l) (satisfies_clause a clause)
 put_step a l m clause false true e f rest = refl
-put_step a l m clause false false e f rest = or_same (holds a l) (holds a m) (satisfies_clause a clause) (same_parts a l.variable m.variable l.positive m.positive f e)
+put_step a l m clause false false e f rest = or_same (makes_true a l) (makes_true a m) (satisfies_clause a clause) (same_parts a l.variable m.variable l.positive m.positive f e)
 
-put_means : (a : TruthAssignment) (l : Literal) (clause : List Literal) → satisfies_clause a (put l clause) ≡ (holds a l || satisfies_clause a clause)
+put_means : (a : TruthAssignment) (l : Literal) (clause : List Literal) → satisfies_clause a (insert_literal l clause) ≡ (makes_true a l || satisfies_clause a clause)
 put_means a l [] = refl
 put_means a l (m ∷ clause) = put_step a l m clause (comes_first m l) (comes_first l m) refl refl (put_means a l clause)
 
@@ -53,14 +53,14 @@ or_assoc true false c = refl
 or_assoc false true c = refl
 or_assoc false false c = refl
 
-fold_means : (a : TruthAssignment) (literals acc : List Literal) → satisfies_clause a (fold (λ clause l. put l clause) acc literals) ≡ (satisfies_clause a acc || satisfies_clause a literals)
+fold_means : (a : TruthAssignment) (literals acc : List Literal) → satisfies_clause a (fold (λ clause l. insert_literal l clause) acc literals) ≡ (satisfies_clause a acc || satisfies_clause a literals)
 fold_means a [] acc = or_false (satisfies_clause a acc)
   where
     or_false : (b : Bool) → b ≡ (b || false)
     or_false true = refl
     or_false false = refl
 fold_means a (l ∷ literals) acc =
-    fold_means a literals (put l acc) ∙ ap (λ z. z || satisfies_clause a literals) (put_means a l acc) ∙ or_assoc (holds a l) (satisfies_clause a acc) (satisfies_clause a literals)
+    fold_means a literals (insert_literal l acc) ∙ ap (λ z. z || satisfies_clause a literals) (put_means a l acc) ∙ or_assoc (makes_true a l) (satisfies_clause a acc) (satisfies_clause a literals)
 
 -- the literal comes before the first of the clause, and each before the next
 Above : Literal → List Literal → Type 0
@@ -71,31 +71,31 @@ InOrder : List Literal → Type 0
 InOrder [] = Unit {0}
 InOrder (l ∷ clause) = Above l clause × InOrder clause
 
-above_step : (x l m : Literal) (clause : List Literal) (s t : Bool) → comes_first x l ≡ true → comes_first x m ≡ true → Above x (if s then m ∷ put l clause else if t then l ∷ m ∷ clause else m ∷ clause)
+above_step : (x l m : Literal) (clause : List Literal) (s t : Bool) → comes_first x l ≡ true → comes_first x m ≡ true → Above x (if s then m ∷ insert_literal l clause else if t then l ∷ m ∷ clause else m ∷ clause)
 unfolding Above
 above_step x l m clause true t e f = f
 above_step x l m clause false true e f = e
 above_step x l m clause false false e f = f
 
-above_put : (x l : Literal) (clause : List Literal) → comes_first x l ≡ true → Above x clause → Above x (put l clause)
+above_put : (x l : Literal) (clause : List Literal) → comes_first x l ≡ true → Above x clause → Above x (insert_literal l clause)
 unfolding Above
 above_put x l [] e h = e
 above_put x l (m ∷ clause) e h = above_step x l m clause (comes_first m l) (comes_first l m) e h
 
-order_step : (l m : Literal) (clause : List Literal) (s t : Bool) → comes_first m l ≡ s → comes_first l m ≡ t → Above m clause → InOrder clause → InOrder (put l clause) → InOrder (if s then m ∷ put l clause else if t then l ∷ m ∷ clause else m ∷ clause)
+order_step : (l m : Literal) (clause : List Literal) (s t : Bool) → comes_first m l ≡ s → comes_first l m ≡ t → Above m clause → InOrder clause → InOrder (insert_literal l clause) → InOrder (if s then m ∷ insert_literal l clause else if t then l ∷ m ∷ clause else m ∷ clause)
 unfolding InOrder Above
 order_step l m clause true t e f above order rest = (above_put m l clause e above, rest)
 order_step l m clause false true e f above order rest = (f, (above, order))
 order_step l m clause false false e f above order rest = (above, order)
 
-put_order : (l : Literal) (clause : List Literal) → InOrder clause → InOrder (put l clause)
+put_order : (l : Literal) (clause : List Literal) → InOrder clause → InOrder (insert_literal l clause)
 unfolding InOrder Above
 put_order l [] h = (tt, tt)
 put_order l (m ∷ clause) h = order_step l m clause (comes_first m l) (comes_first l m) refl refl h.0 h.1 (put_order l clause h.1)
 
-fold_order : (literals acc : List Literal) → InOrder acc → InOrder (fold (λ clause l. put l clause) acc literals)
+fold_order : (literals acc : List Literal) → InOrder acc → InOrder (fold (λ clause l. insert_literal l clause) acc literals)
 fold_order [] acc h = h
-fold_order (l ∷ literals) acc h = fold_order literals (put l acc) (put_order l acc h)
+fold_order (l ∷ literals) acc h = fold_order literals (insert_literal l acc) (put_order l acc h)
 
 -- of two neighbours of one variable the first is positive and the second is not
 signs : (a : TruthAssignment) (v w : ℕ) (s t rest : Bool) → (nat_lt v w || (v == w && s && not t)) ≡ true → (v == w) ≡ true → (signed s (a v) || (signed t (a w) || rest)) ≡ true
@@ -111,7 +111,7 @@ signs a v w false t rest e f = absurd (grind (arith, nat_tests))
 
 both_step : (a : TruthAssignment) (l m : Literal) (clause : List Literal) (s : Bool) → (l.variable == m.variable) ≡ s → comes_first l m ≡ true → (s || has_both_signs (m ∷ clause)) ≡ true → (has_both_signs (m ∷ clause) ≡ true → satisfies_clause a (m ∷ clause) ≡ true) → satisfies_clause a (l ∷ (m ∷ clause)) ≡ true
 both_step a l m clause true e first h rest = signs a l.variable m.variable l.positive m.positive (satisfies_clause a clause) first e
-both_step a l m clause false e first h rest = or_right (holds a l) _ (rest h)
+both_step a l m clause false e first h rest = or_right (makes_true a l) _ (rest h)
   where
     or_right : (b c : Bool) → c ≡ true → (b || c) ≡ true
     or_right true c e = refl
@@ -163,22 +163,22 @@ Numbered : List Literal → Type 0
 Numbered [] = Unit {0}
 Numbered (l ∷ clause) = (0 < l.variable) × Numbered clause
 
-put_numbered_step : (l m : Literal) (clause : List Literal) (s t : Bool) → 0 < l.variable → 0 < m.variable → Numbered clause → Numbered (put l clause) → Numbered (if s then m ∷ put l clause else if t then l ∷ m ∷ clause else m ∷ clause)
+put_numbered_step : (l m : Literal) (clause : List Literal) (s t : Bool) → 0 < l.variable → 0 < m.variable → Numbered clause → Numbered (insert_literal l clause) → Numbered (if s then m ∷ insert_literal l clause else if t then l ∷ m ∷ clause else m ∷ clause)
 unfolding Numbered
 put_numbered_step l m clause true t first other rest more = (other, more)
 put_numbered_step l m clause false true first other rest more = (first, (other, rest))
 put_numbered_step l m clause false false first other rest more = (other, rest)
 
-put_numbered : (l : Literal) (clause : List Literal) → 0 < l.variable → Numbered clause → Numbered (put l clause)
+put_numbered : (l : Literal) (clause : List Literal) → 0 < l.variable → Numbered clause → Numbered (insert_literal l clause)
 unfolding Numbered
 put_numbered l [] first h = (first, tt)
 put_numbered l (m ∷ clause) first h =
     put_numbered_step l m clause (comes_first m l) (comes_first l m) first h.0 h.1 (put_numbered l clause first h.1)
 
-fold_numbered : (literals acc : List Literal) → Numbered literals → Numbered acc → Numbered (fold (λ clause l. put l clause) acc literals)
+fold_numbered : (literals acc : List Literal) → Numbered literals → Numbered acc → Numbered (fold (λ clause l. insert_literal l clause) acc literals)
 unfolding Numbered
 fold_numbered [] acc h k = k
-fold_numbered (l ∷ literals) acc h k = fold_numbered literals (put l acc) h.1 (put_numbered l acc h.0 k)
+fold_numbered (l ∷ literals) acc h k = fold_numbered literals (insert_literal l acc) h.1 (put_numbered l acc h.0 k)
 
 -- where there is a literal, its variable isn't 0
 NumberedIfAny : Option Literal → Type 0
@@ -198,7 +198,7 @@ literal_numbered : (p : MpiProgram) (x : Statement) → NumberedIfAny (literal_o
 unfolding NumberedIfAny
 literal_numbered p (is_true a) = one_more _
 literal_numbered p (is_false a) = one_more _
-literal_numbered p (is_earlier e f) = earlier_step p _ _ (nat_lt (place_of p e) (place_of p f)) (nat_lt (place_of p f) (place_of p e))
+literal_numbered p (is_earlier e f) = earlier_step p _ _ (nat_lt (place_of_event p e) (place_of_event p f)) (nat_lt (place_of_event p f) (place_of_event p e))
 
 option_numbered : (o : Option Literal) (literals : List Literal) → NumberedIfAny o → Numbered literals → Numbered (cons_option o literals)
 unfolding NumberedIfAny Numbered

@@ -5,7 +5,7 @@ use Rattle.formula.specs.Facts.{Meaning, fact}
 use Rattle.formula.specs.Families.{events}
 use Rattle.formula.specs.Orders.{clock_size, used_pairs, order_meanings, is_so_by, rank_in_time}
 use Rattle.formula.specs.Numbering.{facts, meanings, variable_of}
-use Rattle.formula.specs.Laws.{IsTold, Means, TimesGiveOrder, assignment_by, TimesHaveAssignments}
+use Rattle.formula.specs.Laws.{IsOrderTold, Means, TimesGiveOrder, assignment_by, TimesHaveAssignments}
 use Rattle.formula.proofs.Elements.{Each, each_mono, each_both, each_parts, all_from_each, each_of_all}
 use Rattle.formula.proofs.Meanings.{assignments_mean_all}
 use Rattle.formula.proofs.Ranks.{ranks_are_clocks}
@@ -36,10 +36,10 @@ times_give_order p a has time differ told =
     ranks_differ (rank e) (rank f) (time e) (time f) ((ranks_are_clocks most time e e_below).1 f) ((ranks_are_clocks most time f below).1 e) (differ e f first below)) in
     let given = clocks_give_order p a has rank (λ e below. rank_fits (rank e) most (2 ^ clock_size p) (ranks_are_clocks most time e below).0 (clocks_suffice p)) (all_from_each D (used_pairs p) apart) told in (
       given.0,
-      all_from_each (IsTold p a time) (used_pairs p)
-          (each_mono (λ q. IsTold p a rank q × (IsTold p a rank q → IsTold p a time q)) (IsTold p a time) (λ q both. both.1 both.0) (used_pairs p)
-          (each_both (IsTold p a rank) (λ q. IsTold p a rank q → IsTold p a time q) (used_pairs p) (each_of_all (IsTold p a rank) (used_pairs p) given.1)
-          (each_used p (λ q. IsTold p a rank q → IsTold p a time q) (λ e f first below used by_rank.
+      all_from_each (IsOrderTold p a time) (used_pairs p)
+          (each_mono (λ q. IsOrderTold p a rank q × (IsOrderTold p a rank q → IsOrderTold p a time q)) (IsOrderTold p a time) (λ q both. both.1 both.0) (used_pairs p)
+          (each_both (IsOrderTold p a rank) (λ q. IsOrderTold p a rank q → IsOrderTold p a time q) (used_pairs p) (each_of_all (IsOrderTold p a rank) (used_pairs p) given.1)
+          (each_used p (λ q. IsOrderTold p a rank q → IsOrderTold p a time q) (λ e f first below used by_rank.
           let e_below : e < most = omega (arith, first, below) in (
             differ e f first below,
             by_rank.1 ∙ (ranks_are_clocks most time e e_below).1 f,

@@ -4,7 +4,7 @@ use Rattle.std.specs.List.{flat_map, range_with_len, list_any}
 use Rattle.std.proofs.lemmas.Bool.{ltb-true}
 use Rattle.callorder.specs.Programs.{MpiProgram}
 use Rattle.formula.specs.Facts.{Event, Meaning, fact, clock_bit, before, same_bits, Statement, is_true, is_false, is_earlier, is_same_event}
-use Rattle.formula.specs.Families.{SymbolicClause, events, place_of, families_with_orders}
+use Rattle.formula.specs.Families.{SymbolicClause, events, place_of_event, families_with_orders}
 use Rattle.formula.specs.Orders.{clock_size, between, event_pairs, places_in, stated_orders, are_of_same_events, is_among, used_pairs, clock_meanings, pair_meanings, order_meanings, SignedMeaning, so, not_so, differ_before, same_up_to, bits_agree, bit_decides, pair_clauses, order_clauses}
 use Rattle.formula.specs.Numbering.{facts, is_same_meaning}
 use Rattle.formula.proofs.Elements.{and_both, or_left, or_right, each_mono, Each, each_append, each_map, each_flat_map, each_filter, each_range, each_found, any_append_left, any_append_right, any_map, any_flat_map, any_filter, any_range, any_mono, position_within}
@@ -47,12 +47,12 @@ each_used p P h =
 abbrev pub IsStated : MpiProgram → Statement → Type 0
 IsStated p (is_true a) = Unit {0}
 IsStated p (is_false a) = Unit {0}
-IsStated p (is_earlier e f) = (test : ℕ × ℕ → Bool) → test (place_of p e, place_of p f) ≡ true → list_any test (stated_orders p) ≡ true
+IsStated p (is_earlier e f) = (test : ℕ × ℕ → Bool) → test (place_of_event p e, place_of_event p f) ≡ true → list_any test (stated_orders p) ≡ true
 
 stated_from : (p : MpiProgram) (x : Statement) → ((test : ℕ × ℕ → Bool) → list_any test (places_in p x) ≡ true → list_any test (stated_orders p) ≡ true) → IsStated p x
 stated_from p (is_true a) h = tt
 stated_from p (is_false a) h = tt
-stated_from p (is_earlier e f) h = λ test passes. h test (or_left (test (place_of p e, place_of p f)) false passes)
+stated_from p (is_earlier e f) h = λ test passes. h test (or_left (test (place_of_event p e, place_of_event p f)) false passes)
 
 abbrev FoundIn : {X : Type 0} → MpiProgram → (X → List (ℕ × ℕ)) → List (ℕ × ℕ) → X → Type 0
 FoundIn p f all x = (test : ℕ × ℕ → Bool) → list_any test (f x) ≡ true → list_any test all ≡ true
@@ -72,17 +72,17 @@ orders_stated p =
     each_mono (FoundIn p (flat_map (flat_map (places_in p))) (stated_orders p)) (Clauses (IsStated p)) (clauses_stated p) (families_with_orders p)
     (each_found (flat_map (flat_map (places_in p))) (families_with_orders p))
 
-pub used_where_first : (p : MpiProgram) (e f : Event) → IsEvent p f → IsStated p (is_earlier e f) → place_of p e < place_of p f → IsUsed p (place_of p e) (place_of p f)
+pub used_where_first : (p : MpiProgram) (e f : Event) → IsEvent p f → IsStated p (is_earlier e f) → place_of_event p e < place_of_event p f → IsUsed p (place_of_event p e) (place_of_event p f)
 used_where_first p e f event stated first =
-    let a = place_of p e in
-    let b = place_of p f in
+    let a = place_of_event p e in
+    let b = place_of_event p f in
     used_from p a b first (position_within (is_same_event f) (events p) event)
     (stated (are_of_same_events (a, b)) (or_left (a == a && b == b) _ (and_both (a == a) (b == b) (equal_self a) (equal_self b))))
 
-pub used_where_second : (p : MpiProgram) (e f : Event) → IsEvent p e → IsStated p (is_earlier e f) → place_of p f < place_of p e → IsUsed p (place_of p f) (place_of p e)
+pub used_where_second : (p : MpiProgram) (e f : Event) → IsEvent p e → IsStated p (is_earlier e f) → place_of_event p f < place_of_event p e → IsUsed p (place_of_event p f) (place_of_event p e)
 used_where_second p e f event stated first =
-    let a = place_of p e in
-    let b = place_of p f in
+    let a = place_of_event p e in
+    let b = place_of_event p f in
     used_from p b a first (position_within (is_same_event e) (events p) event)
     (stated (are_of_same_events (b, a)) (or_right (b == a && a == b) _ (and_both (b == b) (a == a) (equal_self b) (equal_self a))))
 

@@ -8,9 +8,9 @@ use Rattle.callorder.specs.ProgramRules.{IsProgram}
 use Rattle.callorder.specs.Programs.{MpiProgram}
 use Rattle.clauses.specs.Clauses.{Literal, is_within}
 use Rattle.formula.specs.Facts.{Meaning, fact, before, Statement, is_true, is_false, is_earlier}
-use Rattle.formula.specs.Families.{SymbolicClause, families_with_orders, last_families, place_of, said, first_families, sends_are_buffered_as_allowed, probes_see_messages}
+use Rattle.formula.specs.Families.{SymbolicClause, families_with_orders, last_families, place_of_event, said, first_families, sends_are_buffered_as_allowed, probes_see_messages}
 use Rattle.formula.specs.Orders.{SignedMeaning, order_clauses}
-use Rattle.formula.specs.Numbering.{meanings, is_same_meaning, variable_of, literal, literal_of, put, comes_first, sorted, has_both_signs, in_normal_form, normal_form, numbered, literal_of_signed, numbered_order}
+use Rattle.formula.specs.Numbering.{meanings, is_same_meaning, variable_of, literal, literal_of, insert_literal, comes_first, sorted, has_both_signs, in_normal_form, normal_form, numbered, literal_of_signed, numbered_order}
 use Rattle.formula.specs.Laws.{ClausesAreWithin}
 use Rattle.formula.proofs.Named.{families_of_order, families_of_end, IsVariable, Named, NamesFact, Clauses, with_orders_named, end_named, policy_names}
 use Rattle.formula.proofs.Used.{IsStated, orders_stated, used_where_first, used_where_second, before_named, NamesMeaning, order_clauses_named}
@@ -38,29 +38,29 @@ earlier_within p e f false false has x y = tt
 abbrev HasVariable : MpiProgram → Statement → Type 0
 HasVariable p (is_true a) = IsVariable p (fact a)
 HasVariable p (is_false a) = IsVariable p (fact a)
-HasVariable p (is_earlier e f) = HasOrder p (place_of p e) (place_of p f)
+HasVariable p (is_earlier e f) = HasOrder p (place_of_event p e) (place_of_event p f)
 
 statement_within : (p : MpiProgram) (x : Statement) → HasVariable p x → WithinIfAny (length (meanings p)) (literal_of p x)
 statement_within p (is_true a) h = variable_within p (fact a) h
 statement_within p (is_false a) h = variable_within p (fact a) h
 statement_within p (is_earlier e f) h =
-    earlier_within p (place_of p e) (place_of p f) (nat_lt (place_of p e) (place_of p f)) (nat_lt (place_of p f) (place_of p e)) h refl refl
+    earlier_within p (place_of_event p e) (place_of_event p f) (nat_lt (place_of_event p e) (place_of_event p f)) (nat_lt (place_of_event p f) (place_of_event p e)) h refl refl
 
 abbrev Within : ℕ → List Literal → Type 0
 Within most = Each (λ l. l.variable ≤ most)
 
-put_step : (most : ℕ) (l m : Literal) (clause : List Literal) (s t : Bool) → l.variable ≤ most → m.variable ≤ most → Within most clause → Within most (put l clause) → Within most (if s then m ∷ put l clause else if t then l ∷ m ∷ clause else m ∷ clause)
+put_step : (most : ℕ) (l m : Literal) (clause : List Literal) (s t : Bool) → l.variable ≤ most → m.variable ≤ most → Within most clause → Within most (insert_literal l clause) → Within most (if s then m ∷ insert_literal l clause else if t then l ∷ m ∷ clause else m ∷ clause)
 put_step most l m clause true t a b h k = (b, k)
 put_step most l m clause false true a b h k = (a, (b, h))
 put_step most l m clause false false a b h k = (b, h)
 
-put_within : (most : ℕ) (l : Literal) (clause : List Literal) → l.variable ≤ most → Within most clause → Within most (put l clause)
+put_within : (most : ℕ) (l : Literal) (clause : List Literal) → l.variable ≤ most → Within most clause → Within most (insert_literal l clause)
 put_within most l [] a h = (a, tt)
 put_within most l (m ∷ clause) a h = put_step most l m clause (comes_first m l) (comes_first l m) a h.0 h.1 (put_within most l clause a h.1)
 
-fold_within : (most : ℕ) (literals acc : List Literal) → Within most literals → Within most acc → Within most (fold (λ clause l. put l clause) acc literals)
+fold_within : (most : ℕ) (literals acc : List Literal) → Within most literals → Within most acc → Within most (fold (λ clause l. insert_literal l clause) acc literals)
 fold_within most [] acc h k = k
-fold_within most (l ∷ literals) acc h k = fold_within most literals (put l acc) h.1 (put_within most l acc h.0 k)
+fold_within most (l ∷ literals) acc h k = fold_within most literals (insert_literal l acc) h.1 (put_within most l acc h.0 k)
 
 option_within : (most : ℕ) (o : Option Literal) (literals : List Literal) → WithinIfAny most o → Within most literals → Within most (cons_option o literals)
 option_within most None literals h k = k
@@ -107,8 +107,8 @@ stated_has : (p : MpiProgram) (x : Statement) → Named p x → IsStated p x →
 stated_has p (is_true a) h k = h
 stated_has p (is_false a) h k = h
 stated_has p (is_earlier e f) h k = (
-  λ first. before_named p (place_of p e) (place_of p f) (used_where_first p e f h.1 k first),
-  λ first. before_named p (place_of p f) (place_of p e) (used_where_second p e f h.0 k first),
+  λ first. before_named p (place_of_event p e) (place_of_event p f) (used_where_first p e f h.1 k first),
+  λ first. before_named p (place_of_event p f) (place_of_event p e) (used_where_second p e f h.0 k first),
 )
 
 clause_has : (p : MpiProgram) (clause : SymbolicClause) → Each (Named p) clause → Each (IsStated p) clause → Each (HasVariable p) clause

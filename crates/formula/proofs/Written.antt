@@ -9,7 +9,7 @@ use Rattle.clauses.specs.Clauses.{Literal, rises_above, rises}
 use Rattle.formula.specs.Facts.{clock_bit, before, same_bits}
 use Rattle.formula.specs.Families.{events}
 use Rattle.formula.specs.Orders.{clock_size, used_pairs, SignedMeaning, so, not_so, differ_before, same_up_to, bits_agree, bit_decides, pair_clauses, order_clauses}
-use Rattle.formula.specs.Numbering.{variable_of, comes_first, put, has_both_signs, unless_true, in_normal_form, literal_of_signed}
+use Rattle.formula.specs.Numbering.{variable_of, comes_first, insert_literal, has_both_signs, unless_true, in_normal_form, literal_of_signed}
 use Rattle.formula.specs.Laws.{OrderIsInNormalForm}
 use Rattle.formula.proofs.Elements.{and_both, or_left, Each, each_append, each_mono, each_flat_map, each_range, position_within}
 use Rattle.formula.proofs.Used.{is_pair, IsUsed, each_used}
@@ -20,17 +20,17 @@ use Rattle.formula.proofs.Numbers.{numbers_of_order}
 test_of : (a b : ℕ) → a < b → nat_lt a b ≡ true
 test_of a b h = grind (arith, nat_tests)
 
-put_last : (a : Literal) (clause : List Literal) → Each (λ b. b.variable < a.variable) clause → put a clause ≡ clause ++ (a ∷ [])
+put_last : (a : Literal) (clause : List Literal) → Each (λ b. b.variable < a.variable) clause → insert_literal a clause ≡ clause ++ (a ∷ [])
 put_last a [] h = refl
 put_last a (b ∷ clause) h =
     let first : comes_first b a ≡ true = or_left (nat_lt b.variable a.variable) _ (test_of b.variable a.variable h.0) in
-    ap (λ z. if z then b ∷ put a clause else if comes_first a b then a ∷ (b ∷ clause) else b ∷ clause) first ∙ ap (λ (l : List Literal). b ∷ l) (put_last a clause h.1)
+    ap (λ z. if z then b ∷ insert_literal a clause else if comes_first a b then a ∷ (b ∷ clause) else b ∷ clause) first ∙ ap (λ (l : List Literal). b ∷ l) (put_last a clause h.1)
 
 append_none : {X : Type 0} (xs : List X) → xs ≡ xs ++ []
 append_none [] = refl
 append_none {X} (x ∷ xs) = ap (λ (l : List X). x ∷ l) (append_none xs)
 
-fold_written : (literals acc : List Literal) (low : ℕ) → Each (λ b. b.variable ≤ low) acc → rises_above low literals ≡ true → fold (λ clause a. put a clause) acc literals ≡ acc ++ literals
+fold_written : (literals acc : List Literal) (low : ℕ) → Each (λ b. b.variable ≤ low) acc → rises_above low literals ≡ true → fold (λ clause a. insert_literal a clause) acc literals ≡ acc ++ literals
 fold_written [] acc low below h = append_none acc
 fold_written (a ∷ literals) acc low below h =
     let parts = and_parts (nat_lt low a.variable) (rises_above a.variable literals) h in
@@ -38,7 +38,7 @@ fold_written (a ∷ literals) acc low below h =
     let last = put_last a acc (each_mono (λ b. b.variable ≤ low) (λ b. b.variable < a.variable) (λ b k. omega (arith, k, above)) acc below) in
     let more : Each (λ b. b.variable ≤ a.variable) (acc ++ (a ∷ [])) =
     each_append (λ b. b.variable ≤ a.variable) acc (a ∷ []) (each_mono (λ b. b.variable ≤ low) (λ b. b.variable ≤ a.variable) (λ b k. omega (arith, k, above)) acc below) (omega arith, tt) in
-    ap (λ (l : List Literal). fold (λ clause b. put b clause) l literals) last ∙ fold_written literals (acc ++ (a ∷ [])) a.variable more parts.1 ∙ append_assoc acc (a ∷ []) literals
+    ap (λ (l : List Literal). fold (λ clause b. insert_literal b clause) l literals) last ∙ fold_written literals (acc ++ (a ∷ [])) a.variable more parts.1 ∙ append_assoc acc (a ∷ []) literals
 
 apart : (a b : ℕ) → a < b → (a == b) ≡ false
 apart a b h = grind (arith, nat_tests)

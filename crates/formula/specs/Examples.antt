@@ -24,8 +24,8 @@ abbrev pub receive_from : ℕ → Option ℕ → Kind ℕ
 receive_from source tag = Receive true (record { source = Some source; tag = tag; communicator = 0 })
 
 -- a call by its parts
-abbrev pub call_of : ℕ → Kind ℕ → Call
-call_of rank kind = record { rank = rank; kind = kind }
+abbrev pub example_call : ℕ → Kind ℕ → Call
+example_call rank kind = record { rank = rank; kind = kind }
 
 -- one rank without a call
 abbrev pub no_calls : MpiProgram
@@ -33,7 +33,7 @@ no_calls = record { policy = Any; ranks = 1; calls = [] }
 
 -- one rank that receives from itself
 abbrev pub one_receive : MpiProgram
-one_receive = record { policy = Any; ranks = 1; calls = call_of 0 (receive_from 0 (Some 1)) ∷ [] }
+one_receive = record { policy = Any; ranks = 1; calls = example_call 0 (receive_from 0 (Some 1)) ∷ [] }
 
 -- two ranks, a send to the other one and a receive in another communicator
 abbrev pub other_communicator : MpiProgram
@@ -42,18 +42,18 @@ other_communicator =
       policy = Always;
       ranks = 2;
       calls =
-          call_of 0 (Send Standard true (record { destination = 1; tag = 1; communicator = 0 })) ∷
-          call_of 1 (Receive true (record { source = Some 0; tag = Some 1; communicator = 1 })) ∷ [];
+          example_call 0 (Send Standard true (record { destination = 1; tag = 1; communicator = 0 })) ∷
+          example_call 1 (Receive true (record { source = Some 0; tag = Some 1; communicator = 1 })) ∷ [];
     }
 
 -- one rank that sends to itself in buffered mode
 abbrev pub one_buffered_send : MpiProgram
-one_buffered_send = record { policy = Any; ranks = 1; calls = call_of 0 (send_to Buffered true 0 1) ∷ [] }
+one_buffered_send = record { policy = Any; ranks = 1; calls = example_call 0 (send_to Buffered true 0 1) ∷ [] }
 
 -- one rank that sends to itself and then receives
 abbrev pub send_to_itself : Policy → MpiProgram
 send_to_itself policy =
-    record { policy = policy; ranks = 1; calls = call_of 0 (send_to Standard true 0 1) ∷ call_of 0 (receive_from 0 (Some 1)) ∷ [] }
+    record { policy = policy; ranks = 1; calls = example_call 0 (send_to Standard true 0 1) ∷ example_call 0 (receive_from 0 (Some 1)) ∷ [] }
 
 -- two ranks, each of which sends to the other one and then receives
 abbrev pub head_to_head : Policy → MpiProgram
@@ -62,8 +62,8 @@ head_to_head policy =
       policy = policy;
       ranks = 2;
       calls =
-          call_of 0 (send_to Standard true 1 1) ∷ call_of 0 (receive_from 1 (Some 1)) ∷
-          call_of 1 (send_to Standard true 0 1) ∷ call_of 1 (receive_from 0 (Some 1)) ∷ [];
+          example_call 0 (send_to Standard true 1 1) ∷ example_call 0 (receive_from 1 (Some 1)) ∷
+          example_call 1 (send_to Standard true 0 1) ∷ example_call 1 (receive_from 0 (Some 1)) ∷ [];
     }
 
 -- the same with nonblocking sends, which are waited for after the receives
@@ -73,8 +73,8 @@ nonblocking_exchange =
       policy = Any;
       ranks = 2;
       calls =
-          call_of 0 (send_to Standard false 1 1) ∷ call_of 0 (receive_from 1 (Some 1)) ∷ call_of 0 (Wait 0) ∷
-          call_of 1 (send_to Standard false 0 1) ∷ call_of 1 (receive_from 0 (Some 1)) ∷ call_of 1 (Wait 3) ∷ [];
+          example_call 0 (send_to Standard false 1 1) ∷ example_call 0 (receive_from 1 (Some 1)) ∷ example_call 0 (Wait 0) ∷
+          example_call 1 (send_to Standard false 0 1) ∷ example_call 1 (receive_from 0 (Some 1)) ∷ example_call 1 (Wait 3) ∷ [];
     }
 
 -- two sends with two tags, and a receive with any tag before a receive with the second tag
@@ -84,8 +84,8 @@ any_tag_first =
       policy = Any;
       ranks = 2;
       calls =
-          call_of 0 (send_to Standard true 1 1) ∷ call_of 0 (send_to Standard true 1 2) ∷
-          call_of 1 (receive_from 0 None) ∷ call_of 1 (receive_from 0 (Some 2)) ∷ [];
+          example_call 0 (send_to Standard true 1 1) ∷ example_call 0 (send_to Standard true 1 2) ∷
+          example_call 1 (receive_from 0 None) ∷ example_call 1 (receive_from 0 (Some 2)) ∷ [];
     }
 
 -- three ranks: nonblocking sends and waits; a matched probe for any source, a receive for any
@@ -96,10 +96,10 @@ probe_and_wildcards =
       policy = Never;
       ranks = 3;
       calls =
-          call_of 0 (send_to Standard false 1 1) ∷ call_of 0 (send_to Synchronous false 1 1) ∷ call_of 0 (Wait 0) ∷ call_of 0 (Wait 1) ∷
-          call_of 1 (MatchedProbe (record { source = None; tag = Some 1; communicator = 0 }) 6) ∷
-          call_of 1 (Receive false (record { source = None; tag = None; communicator = 0 })) ∷ call_of 1 (MatchedReceive true) ∷ call_of 1 (Wait 5) ∷
-          call_of 2 (send_to Standard true 1 1) ∷ [];
+          example_call 0 (send_to Standard false 1 1) ∷ example_call 0 (send_to Synchronous false 1 1) ∷ example_call 0 (Wait 0) ∷ example_call 0 (Wait 1) ∷
+          example_call 1 (MatchedProbe (record { source = None; tag = Some 1; communicator = 0 }) 6) ∷
+          example_call 1 (Receive false (record { source = None; tag = None; communicator = 0 })) ∷ example_call 1 (MatchedReceive true) ∷ example_call 1 (Wait 5) ∷
+          example_call 2 (send_to Standard true 1 1) ∷ [];
     }
 
 -- ---- clauses as they are written
@@ -336,9 +336,9 @@ probe_and_receive =
       policy = Never;
       ranks = 2;
       calls =
-          call_of 0 (send_to Standard true 1 1) ∷
-          call_of 1 (Probe (record { source = Some 0; tag = Some 1; communicator = 0 })) ∷
-          call_of 1 (receive_from 0 (Some 1)) ∷ [];
+          example_call 0 (send_to Standard true 1 1) ∷
+          example_call 1 (Probe (record { source = Some 0; tag = Some 1; communicator = 0 })) ∷
+          example_call 1 (receive_from 0 (Some 1)) ∷ [];
     }
 
 -- how many clauses each family of that program has

@@ -26,13 +26,13 @@ abbrev pub sends_of : MpiProgram → ℕ → List ℕ
 sends_of p taker = filter (λ send. are_fit p send taker) (places p)
 
 -- the call exists and is a receive, a matched probe or a probe
-abbrev pub is_finder_call : Option Call → Bool
-is_finder_call None = false
-is_finder_call (Some call) = is_some (pattern_of call.kind)
+abbrev pub call_finds_message : Option Call → Bool
+call_finds_message None = false
+call_finds_message (Some call) = is_some (pattern_of call.kind)
 
 -- the call is a receive, a matched probe or a probe
-abbrev pub is_finder : MpiProgram → ℕ → Bool
-is_finder p c = is_finder_call (call_at p c)
+abbrev pub finds_message : MpiProgram → ℕ → Bool
+finds_message p c = call_finds_message (call_at p c)
 
 -- a send in standard mode
 abbrev pub is_standard_kind : Kind ℕ → Bool
@@ -62,9 +62,9 @@ abbrev pub receive_on_handle : MpiProgram → ℕ → Option ℕ
 receive_on_handle p c = receive_of_call (call_at p c)
 
 -- the call directly before this one, if it is of the same rank
-abbrev pub previous : MpiProgram → ℕ → Option ℕ
-previous p zero = None
-previous p (suc c) = if are_of_one_rank p c (suc c) then Some c else None
+abbrev pub previous_of_rank : MpiProgram → ℕ → Option ℕ
+previous_of_rank p zero = None
+previous_of_rank p (suc c) = if are_of_one_rank p c (suc c) then Some c else None
 
 -- the last calls of the ranks that have a call, rising: those with no call of their rank directly
 -- after them
@@ -84,15 +84,15 @@ rank_of p c = rank_of_call (call_at p c)
 
 -- the events that a run may have: the issue of each call, and then the match of each taker
 abbrev pub events : MpiProgram → List Event
-events p = map issue_of (places p) ++ map match_of (filter (is_finder p) (places p))
+events p = map issue_of (places p) ++ map match_of (filter (finds_message p) (places p))
 
 -- the event at a place of the list
 abbrev pub event_at : MpiProgram → ℕ → Event
 event_at p place = get_or (events p) place (issue_of 0)
 
 -- the place of an event in the list
-abbrev pub place_of : MpiProgram → Event → ℕ
-place_of p e = position_or_len (is_same_event e) (events p)
+abbrev pub place_of_event : MpiProgram → Event → ℕ
+place_of_event p e = position_or_len (is_same_event e) (events p)
 
 -- the event by which a taker with this receive on its handle, or with none, fetches its message
 abbrev pub event_of_fetch : Option ℕ → ℕ → Event
@@ -293,15 +293,15 @@ see_clauses p send probe =
 -- Of what a family speaks, and what it says: of each call, of each standard send, of the last call
 -- of each rank and then once of the whole program, of each pair of a send and a taker, or of each
 -- pair of a send and a probe.
-pub data Blocks : Type 0 where
-  by_call : (MpiProgram → ℕ → List SymbolicClause) → Blocks
-  by_standard_send : (MpiProgram → ℕ → List SymbolicClause) → Blocks
-  by_last_call : (MpiProgram → ℕ → List SymbolicClause) → (MpiProgram → SymbolicClause) → Blocks
-  by_pair : (MpiProgram → ℕ → ℕ → List SymbolicClause) → Blocks
-  by_see : (MpiProgram → ℕ → ℕ → List SymbolicClause) → Blocks
+pub data SymbolicBlocks : Type 0 where
+  by_call : (MpiProgram → ℕ → List SymbolicClause) → SymbolicBlocks
+  by_standard_send : (MpiProgram → ℕ → List SymbolicClause) → SymbolicBlocks
+  by_last_call : (MpiProgram → ℕ → List SymbolicClause) → (MpiProgram → SymbolicClause) → SymbolicBlocks
+  by_pair : (MpiProgram → ℕ → ℕ → List SymbolicClause) → SymbolicBlocks
+  by_see : (MpiProgram → ℕ → ℕ → List SymbolicClause) → SymbolicBlocks
 
 -- the clauses of all calls in call order, or of all pairs by send, then by taker or probe
-abbrev pub clauses_in : MpiProgram → Blocks → List SymbolicClause
+abbrev pub clauses_in : MpiProgram → SymbolicBlocks → List SymbolicClause
 clauses_in p (by_call clauses) = flat_map (clauses p) (places p)
 clauses_in p (by_standard_send clauses) = flat_map (clauses p) (standard_sends p)
 clauses_in p (by_last_call clauses clause) = flat_map (clauses p) (last_calls p) ++ (clause p ∷ [])
@@ -310,21 +310,21 @@ clauses_in p (by_see clauses) = flat_map (λ pair. clauses p pair.0 pair.1) (see
 
 -- a family of clauses: what it says, and whether some clause states which of two events is earlier
 pub record ClauseFamily : Type 0 where
-  pub says : Blocks
+  pub says : SymbolicBlocks
   pub states_order : Bool
 
 -- a family that states an order
-abbrev with_order : Blocks → ClauseFamily
+abbrev with_order : SymbolicBlocks → ClauseFamily
 with_order blocks = record { says = blocks; states_order = true }
 
 -- a family that states none
-abbrev without_order : Blocks → ClauseFamily
+abbrev without_order : SymbolicBlocks → ClauseFamily
 without_order blocks = record { says = blocks; states_order = false }
 
 -- what each family is
 abbrev pub family_of : Family → ClauseFamily
-family_of IssueOrder = with_order (by_call (λ p c. issued_after c (previous p c)))
-family_of ReturnOrder = with_order (by_call (λ p c. issued_after_return_of p c (previous p c)))
+family_of IssueOrder = with_order (by_call (λ p c. issued_after c (previous_of_rank p c)))
+family_of ReturnOrder = with_order (by_call (λ p c. issued_after_return_of p c (previous_of_rank p c)))
 family_of MatchOrder = with_order (by_pair (λ p send taker. issued_before_match send taker))
 family_of MatchedOnce = with_order (by_pair without_later_pairs)
 family_of SendOrder =
@@ -332,7 +332,7 @@ family_of SendOrder =
 family_of TakerOrder =
     with_order (by_pair (λ p send taker. flat_map (taker_is_matched_before p send taker) (earlier_takers p send taker)))
 family_of NoPairWaits = without_order (by_pair pair_does_not_wait)
-family_of NoIssueWaits = without_order (by_call (λ p c. issue_does_not_wait p c (previous p c)))
+family_of NoIssueWaits = without_order (by_call (λ p c. issue_does_not_wait p c (previous_of_rank p c)))
 family_of SomeUnfinished =
     without_order (by_last_call (λ p c. where_returned p c (is_false (unfinished (rank_of p c)))) (λ p. map (λ c. is_true (unfinished (rank_of p c))) (last_calls p)))
 family_of Buffering = without_order (by_standard_send (λ p send. buffered_under p.policy send))

@@ -3,16 +3,16 @@ use Rattle.std.specs.Prelude.{◌≡◌, ◌≢◌, ℕ, ◌+◌, ◌*◌, ◌<�
 use Rattle.std.specs.List.{list_any, list_all}
 use Rattle.callorder.specs.ProgramRules.{IsProgram}
 use Rattle.callorder.specs.Programs.{MpiProgram}
-use Rattle.clauses.specs.Clauses.{Literal, TruthAssignment, value_of, holds, are_within, rises, satisfies}
+use Rattle.clauses.specs.Clauses.{Literal, TruthAssignment, value_of, makes_true, are_within, rises, satisfies}
 use Rattle.formula.specs.Facts.{Fact, Meaning, fact, clock_bit, before, same_bits, Statement, is_true, is_false, is_earlier}
-use Rattle.formula.specs.Families.{SymbolicClause, events, event_at, place_of, families}
+use Rattle.formula.specs.Families.{SymbolicClause, events, event_at, place_of_event, families}
 use Rattle.formula.specs.Orders.{clock_size, first_bits, used_pairs, place_of_pair, order_meanings, order_clauses, is_so_by, rank_in_time}
 use Rattle.formula.specs.Numbering.{facts, meanings, variable_of, literal_of, numbered, literal_of_signed, numbered_order, formula_of}
 
 -- where there is no literal, it is false
 abbrev pub holds_if_any : TruthAssignment → Option Literal → Bool
 holds_if_any a None = false
-holds_if_any a (Some l) = holds a l
+holds_if_any a (Some l) = makes_true a l
 
 -- the assignment makes the literal of a statement true exactly where the statement is right
 abbrev pub Agrees : MpiProgram → TruthAssignment → (Statement → Bool) → Statement → Type 0
@@ -51,15 +51,15 @@ abbrev pub clock_in : MpiProgram → TruthAssignment → ℕ → ℕ
 clock_in p a e = first_bits (λ i. a (variable_of p (clock_bit e i))) (clock_size p)
 
 -- the clocks of the two events differ, and their variable tells whether the first is smaller
-abbrev pub IsTold : MpiProgram → TruthAssignment → (ℕ → ℕ) → ℕ × ℕ → Type 0
-IsTold p a clock pair =
+abbrev pub IsOrderTold : MpiProgram → TruthAssignment → (ℕ → ℕ) → ℕ × ℕ → Type 0
+IsOrderTold p a clock pair =
     (clock pair.0 ≢ clock pair.1) × (a (variable_of p (before pair.0 pair.1)) ≡ nat_lt (clock pair.0) (clock pair.1))
 
 -- An assignment that satisfies the clauses on the order gives clocks to the events by their bits.
 -- Those of used pairs differ, and the variable of the pair tells which is smaller.
 abbrev pub OrderGivesClocks : Type 0
 OrderGivesClocks =
-    (p : MpiProgram) (a : TruthAssignment) → IsTrue (satisfies a (numbered_order p)) → All (IsTold p a (clock_in p a)) (used_pairs p)
+    (p : MpiProgram) (a : TruthAssignment) → IsTrue (satisfies a (numbered_order p)) → All (IsOrderTold p a (clock_in p a)) (used_pairs p)
 
 -- the assignment makes true what is so
 abbrev pub Means : MpiProgram → TruthAssignment → (Meaning → Bool) → Meaning → Type 0
@@ -72,7 +72,7 @@ abbrev pub ClocksGiveOrder : Type 0
 ClocksGiveOrder =
     (p : MpiProgram) (a : TruthAssignment) (has : Fact → Bool) (clock : ℕ → ℕ) → ((e : ℕ) → e < length (events p) → clock e < 2 ^ clock_size p)
     → All (λ pair. clock pair.0 ≢ clock pair.1) (used_pairs p) → All (Means p a (is_so_by has (clock_size p) clock)) (order_meanings p)
-    → IsTrue (satisfies a (numbered_order p)) × All (IsTold p a clock) (used_pairs p)
+    → IsTrue (satisfies a (numbered_order p)) × All (IsOrderTold p a clock) (used_pairs p)
 
 -- Whatever times the events have, each another one: their places in the order of times are such
 -- clocks, and the variables tell the order of the times.
@@ -81,7 +81,7 @@ TimesGiveOrder =
     (p : MpiProgram) (a : TruthAssignment) (has : Fact → Bool) (time : ℕ → ℕ)
     → ((e f : ℕ) → e < f → f < length (events p) → time e ≢ time f)
     → All (Means p a (is_so_by has (clock_size p) (rank_in_time (length (events p)) time))) (order_meanings p)
-    → IsTrue (satisfies a (numbered_order p)) × All (IsTold p a time) (used_pairs p)
+    → IsTrue (satisfies a (numbered_order p)) × All (IsOrderTold p a time) (used_pairs p)
 
 -- the assignment agrees with a statement on the order where it makes its literal true exactly where
 -- the first event's clock is smaller
@@ -89,14 +89,14 @@ abbrev pub AgreesByClock : MpiProgram → TruthAssignment → (ℕ → ℕ) → 
 AgreesByClock p a clock (is_true x) = ⊤
 AgreesByClock p a clock (is_false x) = ⊤
 AgreesByClock p a clock (is_earlier e f) =
-    holds_if_any a (literal_of p (is_earlier e f)) ≡ nat_lt (clock (place_of p e)) (clock (place_of p f))
+    holds_if_any a (literal_of p (is_earlier e f)) ≡ nat_lt (clock (place_of_event p e)) (clock (place_of_event p f))
 
 -- Where an assignment tells the order of each used pair, it agrees with each statement on the order
 -- in all families.
 abbrev pub UsedPairsSuffice : Type 0
 UsedPairsSuffice =
     (p : MpiProgram) (a : TruthAssignment) (clock : ℕ → ℕ) → IsProgram p
-    → All (IsTold p a clock) (used_pairs p) → All (All (All (AgreesByClock p a clock))) (families p)
+    → All (IsOrderTold p a clock) (used_pairs p) → All (All (All (AgreesByClock p a clock))) (families p)
 
 -- the assignment agrees with a statement on a fact where it makes its literal true exactly where
 -- the statement is right
@@ -114,13 +114,13 @@ FactsSuffice =
 
 -- Each event stands in the list once.
 abbrev pub EventsStandOnce : Type 0
-EventsStandOnce = (p : MpiProgram) (place : ℕ) → place < length (events p) → place_of p (event_at p place) ≡ place
+EventsStandOnce = (p : MpiProgram) (place : ℕ) → place < length (events p) → place_of_event p (event_at p place) ≡ place
 
 -- the events of a statement on the order are those at their places in the list
 abbrev pub EventsAreListed : MpiProgram → Statement → Type 0
 EventsAreListed p (is_true x) = ⊤
 EventsAreListed p (is_false x) = ⊤
-EventsAreListed p (is_earlier e f) = (event_at p (place_of p e) ≡ e) × (event_at p (place_of p f) ≡ f)
+EventsAreListed p (is_earlier e f) = (event_at p (place_of_event p e) ≡ e) × (event_at p (place_of_event p f) ≡ f)
 
 -- The clauses of a program state the order of events of the program alone.
 abbrev pub StatedEventsAreListed : Type 0
@@ -159,5 +159,5 @@ TimesHaveAssignments =
     (p : MpiProgram) (has : Fact → Bool) (time : ℕ → ℕ)
     → ((e f : ℕ) → e < f → f < length (events p) → time e ≢ time f)
     → IsTrue (satisfies (assignment_by p has time) (numbered_order p))
-    × All (IsTold p (assignment_by p has time) time) (used_pairs p)
+    × All (IsOrderTold p (assignment_by p has time) time) (used_pairs p)
     × All (λ a. assignment_by p has time (variable_of p (fact a)) ≡ has a) (facts p)

@@ -5,7 +5,7 @@ use Rattle.callorder.specs.Programs.{MpiProgram}
 use Rattle.candidates.specs.Pairs.{places, matching_pairs, seeing_pairs}
 use Rattle.clauses.specs.Clauses.{Literal, Conjunction}
 use Rattle.formula.specs.Facts.{Fact, issued, buffered, matched, unfinished, Meaning, fact, clock_bit, before, same_bits, Statement, is_true, is_false, is_earlier}
-use Rattle.formula.specs.Families.{SymbolicClause, said, first_families, last_families, place_of, standard_sends, last_calls, rank_of}
+use Rattle.formula.specs.Families.{SymbolicClause, said, first_families, last_families, place_of_event, standard_sends, last_calls, rank_of}
 use Rattle.formula.specs.Orders.{SignedMeaning, order_meanings, order_clauses}
 
 -- ---- variables
@@ -60,7 +60,7 @@ earlier_literal p e f =
 abbrev pub literal_of : MpiProgram → Statement → Option Literal
 literal_of p (is_true a) = Some (literal (variable_of p (fact a)) true)
 literal_of p (is_false a) = Some (literal (variable_of p (fact a)) false)
-literal_of p (is_earlier e f) = earlier_literal p (place_of p e) (place_of p f)
+literal_of p (is_earlier e f) = earlier_literal p (place_of_event p e) (place_of_event p f)
 
 -- ---- clauses
 
@@ -69,13 +69,13 @@ abbrev pub comes_first : Literal → Literal → Bool
 comes_first a b = nat_lt a.variable b.variable || (a.variable == b.variable && a.positive && not b.positive)
 
 -- puts a literal in its place, unless it stands there
-abbrev pub put : Literal → List Literal → List Literal
-put a [] = a ∷ []
-put a (b ∷ clause) = if comes_first b a then b ∷ put a clause else if comes_first a b then a ∷ b ∷ clause else b ∷ clause
+abbrev pub insert_literal : Literal → List Literal → List Literal
+insert_literal a [] = a ∷ []
+insert_literal a (b ∷ clause) = if comes_first b a then b ∷ insert_literal a clause else if comes_first a b then a ∷ b ∷ clause else b ∷ clause
 
 -- the literals in order, each once
 abbrev pub sorted : List Literal → List Literal
-sorted literals = fold (λ clause a. put a clause) [] literals
+sorted literals = fold (λ clause a. insert_literal a clause) [] literals
 
 -- two neighbours have one variable
 abbrev pub has_both_signs : List Literal → Bool

@@ -7,7 +7,7 @@ use Rattle.std.specs.Int.{bit_at}
 use Rattle.callorder.specs.Programs.{MpiProgram}
 pub use Rattle.formula.specs.declared.facts.SignedMeaning.{SignedMeaning}
 use Rattle.formula.specs.Facts.{Fact, Meaning, fact, clock_bit, before, same_bits, Statement, is_true, is_false, is_earlier}
-use Rattle.formula.specs.Families.{events, place_of, families_with_orders}
+use Rattle.formula.specs.Families.{events, place_of_event, families_with_orders}
 
 -- ---- clocks
 
@@ -42,7 +42,7 @@ event_pairs most = flat_map (λ e. map (λ f. (e, f)) (between e most)) (range_w
 abbrev pub places_in : MpiProgram → Statement → List (ℕ × ℕ)
 places_in p (is_true a) = []
 places_in p (is_false a) = []
-places_in p (is_earlier e f) = (place_of p e, place_of p f) ∷ []
+places_in p (is_earlier e f) = (place_of_event p e, place_of_event p f) ∷ []
 
 -- the places of the events of which the clauses say that the first is earlier
 abbrev pub stated_orders : MpiProgram → List (ℕ × ℕ)

@@ -12,7 +12,7 @@ use Rattle.std.proofs.lemmas.Bool.{and_parts}
 use Rattle.std.proofs.lemmas.Bool.Decides.{nat_tests}
 use Rattle.formula_tables.proofs.FactSlots.{test_true}
 use Rattle.formula.specs.declared.families.Family.{Family}
-use Rattle.formula.specs.Families.{SymbolicClause, last_calls, is_standard, Blocks, by_call, by_standard_send, by_last_call, by_pair, by_see, clauses_in, family_of, said, all_families}
+use Rattle.formula.specs.Families.{SymbolicClause, last_calls, is_standard, SymbolicBlocks, by_call, by_standard_send, by_last_call, by_pair, by_see, clauses_in, family_of, said, all_families}
 use Rattle.formula.specs.Orders.{places_in, stated_orders}
 use Rattle.formula_families.specs.declared.families.Block.{Block}
 use Rattle.formula_families.specs.parts.Blocks.{block, blocks_of}
@@ -135,7 +135,7 @@ by_last p h once =
     flat_map_range_more f n ∙ (ap (λ l. l ++ f n) calls ∙ ap (λ b. flat_map h (last_calls p) ++ (if b then where_last p n (h n) else once)) past)
 
 -- the blocks together have the clauses
-in_blocks : (p : MpiProgram) (blocks : Blocks) → flat_map (block_in p blocks) (range_with_len 0 (count_in p blocks)) ≡ clauses_in p blocks
+in_blocks : (p : MpiProgram) (blocks : SymbolicBlocks) → flat_map (block_in p blocks) (range_with_len 0 (count_in p blocks)) ≡ clauses_in p blocks
 in_blocks p (by_call clauses) = refl
 in_blocks p (by_standard_send clauses) = sym (of_filter (clauses p) (is_standard p) (places p))
 in_blocks p (by_last_call clauses clause) = by_last p (clauses p) (clause p ∷ [])

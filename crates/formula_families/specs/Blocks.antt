@@ -3,7 +3,7 @@ use Rattle.std.specs.Prelude.{ℕ, not, nat_lt, if◌then◌else◌, ◌+◌, Li
 use Rattle.callorder.specs.Programs.{MpiProgram, is_probe, are_of_one_rank}
 use Rattle.candidates.specs.Pairs.{pairs_of, pair_at}
 use Rattle.formula.specs.declared.families.Family.{Family}
-use Rattle.formula.specs.Families.{SymbolicClause, is_standard, family_of, Blocks, by_call, by_standard_send, by_last_call, by_pair, by_see}
+use Rattle.formula.specs.Families.{SymbolicClause, is_standard, family_of, SymbolicBlocks, by_call, by_standard_send, by_last_call, by_pair, by_see}
 use Rattle.formula_families.specs.declared.families.Block.{Block}
 
 -- what is said of a pair of a send and a taker; nothing of a pair of a send and a probe
@@ -20,7 +20,7 @@ where_last p c clauses = if not (are_of_one_rank p c (c + 1)) then clauses else 
 
 -- The clauses for the call or for the pair at a place. What is said once of the whole program
 -- stands behind what is said of all calls.
-abbrev pub block_in : MpiProgram → Blocks → ℕ → List SymbolicClause
+abbrev pub block_in : MpiProgram → SymbolicBlocks → ℕ → List SymbolicClause
 block_in p (by_call clauses) place = clauses p place
 block_in p (by_standard_send clauses) place = if is_standard p place then clauses p place else []
 block_in p (by_last_call clauses clause) place =
@@ -29,7 +29,7 @@ block_in p (by_pair clauses) place = let pair = pair_at (pairs_of p) place in wh
 block_in p (by_see clauses) place = let pair = pair_at (pairs_of p) place in where_seen p pair (clauses p pair.0 pair.1)
 
 -- how many blocks there are
-abbrev pub count_in : MpiProgram → Blocks → ℕ
+abbrev pub count_in : MpiProgram → SymbolicBlocks → ℕ
 count_in p (by_call clauses) = length p.calls
 count_in p (by_standard_send clauses) = length p.calls
 count_in p (by_last_call clauses clause) = length p.calls + 1

@@ -5,7 +5,7 @@ ghost use Rattle.formula.specs.declared.facts.Fact.TheVariants.{Unfinished as un
 ghost use Rattle.formula.specs.declared.facts.Statement.TheVariants.{Holds as is_true, Fails as is_false};
 ghost use Rattle.formula.specs.Families.{last_calls, rank_of, is_standard, where_returned, buffered_under, issued_after, issued_after_return_of, issue_does_not_wait, family_of, first_families, last_families};
 ghost use Rattle.formula.specs.declared.families.Family.TheVariants.{SomeUnfinished, Sees};
-ghost use Rattle.formula_families.specs.parts.Blocks.{block, of_pair};
+ghost use Rattle.formula_families.specs.parts.Blocks.{block, said_of_pair};
 ghost use Rattle.formula_families.specs.Blocks.{clauses_of, size_of, where_taken, where_seen, where_last};
 ghost use Rattle.candidates.specs.Pairs.{pairs_of, pair_at};
 
@@ -169,7 +169,7 @@ fn add_pair(
     place: usize,
 ) -> Result<(), AllocError>
     ensures { OnOk result (clauses.new ≡
-        clauses.old ++ of_pair source.now (family_of family).says (pair_at (pairs_of source.now) place)) }
+        clauses.old ++ said_of_pair source.now (family_of family).says (pair_at (pairs_of source.now) place)) }
 {
     let (send, finder) = source.pair(place);
     match family {
@@ -197,7 +197,7 @@ fn add_where_taken(
     place: usize,
 ) -> Result<(), AllocError>
     ensures { let pair = pair_at (pairs_of source.now) place in OnOk result (clauses.new ≡
-        clauses.old ++ where_taken source.now pair (of_pair source.now (family_of family).says pair)) }
+        clauses.old ++ where_taken source.now pair (said_of_pair source.now (family_of family).says pair)) }
 {
     let (_send, finder) = source.pair(place);
     if !source.program().is_probe(finder) {
@@ -214,7 +214,7 @@ fn add_where_seen(
     place: usize,
 ) -> Result<(), AllocError>
     ensures { let pair = pair_at (pairs_of source.now) place in OnOk result (clauses.new ≡
-        clauses.old ++ where_seen source.now pair (of_pair source.now (family_of Sees).says pair)) }
+        clauses.old ++ where_seen source.now pair (said_of_pair source.now (family_of Sees).says pair)) }
 {
     let (_send, finder) = source.pair(place);
     if source.program().is_probe(finder) {

@@ -20,7 +20,7 @@ use Rattle.formula.specs.declared.facts.Fact.TheVariants.{Issued as issued, Buff
 use Rattle.formula.specs.declared.facts.Statement.TheVariants.{Holds as is_true, Fails as is_false, Earlier as is_earlier}
 use Rattle.formula.specs.declared.facts.Condition.{Condition}
 use Rattle.formula.specs.declared.facts.Condition.TheVariants.{AtOnce as at_once, IfMatched as if_matched, IfFetched as if_fetched, IfBufferedOrFetched as if_buffered_or_fetched}
-use Rattle.formula.specs.Families.{SymbolicClause, when_returned, sends_of, previous, receive_on_handle, receive_of_call, fetch_of, event_of_fetch, handle_is_received_on, is_fetched_before, is_returned_before, issued_after_return_of}
+use Rattle.formula.specs.Families.{SymbolicClause, when_returned, sends_of, previous_of_rank, receive_on_handle, receive_of_call, fetch_of, event_of_fetch, handle_is_received_on, is_fetched_before, is_returned_before, issued_after_return_of}
 use Rattle.formula_from_run.specs.Worlds.{is_right, clause_holds, clauses_hold, clock_from, world_of}
 use Rattle.formula_from_run.specs.Laws.{CallsAreIssuedAfterReturns}
 use Rattle.formula.proofs.Elements.{and_both, or_left, or_right, any_append_left, any_append_right}
@@ -184,10 +184,10 @@ previous_holds p steps c true program run same =
     subst (λ (z : ℕ). are_of_one_rank p c z ≡ true → clauses_hold (world_of p steps) (issued_after_return_of p z (Some c)) ≡ true) next (one_holds p steps c program run) same
 previous_holds p steps c false program run same = refl
 
-after_return_holds : (p : MpiProgram) (steps : List Step) (c : ℕ) → IsProgram p → IsRun p (opening p) steps → clauses_hold (world_of p steps) (issued_after_return_of p c (previous p c)) ≡ true
+after_return_holds : (p : MpiProgram) (steps : List Step) (c : ℕ) → IsProgram p → IsRun p (opening p) steps → clauses_hold (world_of p steps) (issued_after_return_of p c (previous_of_rank p c)) ≡ true
 after_return_holds p steps zero program run = refl
 after_return_holds p steps (suc c) program run = previous_holds p steps c (are_of_one_rank p c (suc c)) program run refl
 
 pub calls_are_issued_after_returns : CallsAreIssuedAfterReturns
 calls_are_issued_after_returns p steps program run =
-    all_made (clause_holds (world_of p steps)) (λ c. issued_after_return_of p c (previous p c)) (places p) (λ c. after_return_holds p steps c program run)
+    all_made (clause_holds (world_of p steps)) (λ c. issued_after_return_of p c (previous_of_rank p c)) (places p) (λ c. after_return_holds p steps c program run)

@@ -10,7 +10,7 @@ use Rattle.clauses.specs.Clauses.{Literal, TruthAssignment, satisfies, satisfies
 use Rattle.formula.specs.declared.facts.Event.{Event}
 use Rattle.formula.specs.declared.facts.Statement.{Statement}
 use Rattle.formula.specs.declared.facts.Statement.TheVariants.{Holds as is_true, Fails as is_false, Earlier as is_earlier}
-use Rattle.formula.specs.Families.{SymbolicClause, event_at, place_of, families, said, first_families, last_families}
+use Rattle.formula.specs.Families.{SymbolicClause, event_at, place_of_event, families, said, first_families, last_families}
 use Rattle.formula.specs.Numbering.{numbered, numbered_order, formula_of}
 use Rattle.formula.specs.Laws.{Agrees, AgreesByFact, AgreesByClock, EventsAreListed}
 use Rattle.formula.proofs.Elements.{Each, each_both, each_mono, each_parts, each_of_all, all_append, all_flat_map}
@@ -40,7 +40,7 @@ right_agrees p a world (is_true y) told order listed = told
 right_agrees p a world (is_false y) told order listed = told
 right_agrees p a world (is_earlier e f) told order listed =
     order ∙
-    ap (λ (z : Event). nat_lt (world.clock z) (world.clock (event_at p (place_of p f)))) listed.0 ∙
+    ap (λ (z : Event). nat_lt (world.clock z) (world.clock (event_at p (place_of_event p f)))) listed.0 ∙
     ap (λ (z : Event). nat_lt (world.clock e) (world.clock z)) listed.1
 
 -- the same of each statement of the formula's families

@@ -10,7 +10,7 @@ use Rattle.run_laws.specs.Places.{IsIssuedBefore}
 use Rattle.run_laws.proofs.Issued.{issued_before}
 use Rattle.formula.specs.declared.facts.Event.{Event}
 use Rattle.formula.specs.declared.facts.Event.TheVariants.{Issue as issue_of}
-use Rattle.formula.specs.Families.{place_of}
+use Rattle.formula.specs.Families.{place_of_event}
 use Rattle.formula_from_run.specs.Worlds.{is_event, clock_from}
 
 cond_zero : (b : Bool) (k n : ℕ) → (b ≡ false → k ≤ n) → cond b 0 (suc k) ≤ suc n
@@ -57,15 +57,15 @@ pub issued_clock : (p : MpiProgram) (steps : List Step) (c i : ℕ) → IsInRank
 issued_clock p steps c i order run issued = clock_before p steps c i (issued_before p steps i c order run issued)
 
 -- an event happens by a step, or comes after all steps, by its place
-pub happens_or_never : (p : MpiProgram) (m : Configuration) (steps : List Step) (e : Event) → (clock_from p m steps e < length steps) ⊎ (clock_from p m steps e ≡ length steps + place_of p e)
+pub happens_or_never : (p : MpiProgram) (m : Configuration) (steps : List Step) (e : Event) → (clock_from p m steps e < length steps) ⊎ (clock_from p m steps e ≡ length steps + place_of_event p e)
 happens_or_never p m [] e = inr (omega arith)
-happens_or_never p m (x ∷ steps) e = later_or (is_event m x e) (clock_from p (after m x) steps e) (length steps) (place_of p e) (happens_or_never p (after m x) steps e)
+happens_or_never p m (x ∷ steps) e = later_or (is_event m x e) (clock_from p (after m x) steps e) (length steps) (place_of_event p e) (happens_or_never p (after m x) steps e)
   where
     later_or : (b : Bool) (k n place : ℕ) → (k < n) ⊎ (k ≡ n + place) → (cond b 0 (suc k) < suc n) ⊎ (cond b 0 (suc k) ≡ suc n + place)
     later_or true k n place h = inl (omega arith)
     later_or false k n place (inl below) = inl (omega arith)
     later_or false k n place (inr e) = inr (omega (arith, e))
 
-pub clock_most : (p : MpiProgram) (m : Configuration) (steps : List Step) (e : Event) → clock_from p m steps e ≤ length steps + place_of p e
+pub clock_most : (p : MpiProgram) (m : Configuration) (steps : List Step) (e : Event) → clock_from p m steps e ≤ length steps + place_of_event p e
 clock_most p m steps e =
     elim (happens_or_never p m steps e) [ inl below ↦ omega (arith, below) | inr same ↦ omega (arith, same) ]

@@ -14,7 +14,7 @@ use Rattle.run_laws.specs.Laws.{IsInRankOrder}
 use Rattle.run_laws.proofs.Issued.{earlier_calls_issue_first}
 use Rattle.candidates.specs.Pairs.{places}
 use Rattle.formula.specs.declared.facts.Event.TheVariants.{Issue as issue_of}
-use Rattle.formula.specs.Families.{previous, issued_after}
+use Rattle.formula.specs.Families.{previous_of_rank, issued_after}
 use Rattle.formula_from_run.specs.Worlds.{is_event, clause_holds, clauses_hold, clock_from, world_of}
 use Rattle.formula_from_run.specs.Laws.{CallsAreIssuedInOrder}
 use Rattle.formula.proofs.Elements.{and_both}
@@ -74,10 +74,10 @@ previous_holds : (p : MpiProgram) (steps : List Step) (c : ℕ) (b : Bool) → I
 previous_holds p steps c true order run same = earlier_holds p steps (suc c) c order run (omega arith) same
 previous_holds p steps c false order run same = refl
 
-issued_after_holds : (p : MpiProgram) (steps : List Step) (c : ℕ) → IsInRankOrder p → IsRun p (opening p) steps → clauses_hold (world_of p steps) (issued_after c (previous p c)) ≡ true
+issued_after_holds : (p : MpiProgram) (steps : List Step) (c : ℕ) → IsInRankOrder p → IsRun p (opening p) steps → clauses_hold (world_of p steps) (issued_after c (previous_of_rank p c)) ≡ true
 issued_after_holds p steps zero order run = refl
 issued_after_holds p steps (suc c) order run = previous_holds p steps c (are_of_one_rank p c (suc c)) order run refl
 
 pub calls_are_issued_in_order : CallsAreIssuedInOrder
 calls_are_issued_in_order p steps program run =
-    all_made (clause_holds (world_of p steps)) (λ c. issued_after c (previous p c)) (places p) (λ c. issued_after_holds p steps c program.rank_order run)
+    all_made (clause_holds (world_of p steps)) (λ c. issued_after c (previous_of_rank p c)) (places p) (λ c. issued_after_holds p steps c program.rank_order run)

@@ -21,8 +21,8 @@ use Rattle.formula.specs.declared.facts.Fact.TheVariants.{Issued as issued, Matc
 use Rattle.formula.specs.declared.facts.Statement.TheVariants.{Holds as is_true, Fails as is_false, Earlier as is_earlier}
 use Rattle.nonovertake.specs.Earlier.{earlier_sends}
 use Rattle.formula.specs.Families.{sends_of, issued_before_match, send_is_matched_before, pair_does_not_wait}
-use Rattle.formula_from_run.specs.Worlds.{HasEnded, is_that, is_right, clause_holds, clauses_hold, clock_from, world_of}
-use Rattle.formula_from_run.specs.Laws.{MatchesComeAfterIssues, SendsDoNotOvertake, NoPairWaits}
+use Rattle.formula_from_run.specs.Worlds.{HasNoEnabledStep, is_that, is_right, clause_holds, clauses_hold, clock_from, world_of}
+use Rattle.formula_from_run.specs.Laws.{MatchesComeAfterIssues, NoSendOvertakes, NoPairWaits}
 use Rattle.formula.proofs.Elements.{and_both, any_append_left, any_append_right}
 use Rattle.formula_from_run.proofs.Lists.{or_not, or_not_not, or_last, all_made_within, all_mapped_twice, has_number, in_range, in_filter, any_mapped, pairs_hold}
 use Rattle.formula_from_run.proofs.Clocks.{issued_clock}
@@ -145,7 +145,7 @@ send_is_matched_before_holds p steps s t e run fit below same fits =
     (all_mapped_twice (clause_holds (world_of p steps)) (λ u. is_false (matched s t) ∷ is_false (matched e u) ∷ is_earlier (match_of u) (match_of t) ∷ []) (takes p e) (λ u. not (u == t)) (places p)
     (λ u _ taken. or_not_not _ _ _ (λ h g. or_last _ (before_it p steps s t e u run (at_end h) (first h) taken g))))
 
-pub sends_do_not_overtake : SendsDoNotOvertake
+pub sends_do_not_overtake : NoSendOvertakes
 sends_do_not_overtake p steps program run =
     pairs_hold p (clause_holds (world_of p steps)) (λ s t. flat_map (send_is_matched_before p s t) (earlier_sends p s t))
     (λ s t taken. all_made_within (clause_holds (world_of p steps)) (send_is_matched_before p s t) (λ e. are_of_one_rank p e s && are_fit p e t) 0 s s (omega arith)
@@ -154,7 +154,7 @@ sends_do_not_overtake p steps program run =
 -- ---- no pair waits
 
 -- of a send and a finder that fit and are issued, one is matched where no step is enabled
-matched_at_end : (p : MpiProgram) (m : Configuration) (s t : ℕ) → HasEnded p m → are_fit p s t ≡ true → is_issued p m s ≡ true → is_issued p m t ≡ true → (is_matched m s ≡ true) ⊎ (is_matched m t ≡ true)
+matched_at_end : (p : MpiProgram) (m : Configuration) (s t : ℕ) → HasNoEnabledStep p m → are_fit p s t ≡ true → is_issued p m s ≡ true → is_issued p m t ≡ true → (is_matched m s ≡ true) ⊎ (is_matched m t ≡ true)
 matched_at_end p m s t ended fit i j = by (is_matched m s) (is_matched m t) refl refl
   where
     by : (a b : Bool) → is_matched m s ≡ a → is_matched m t ≡ b → (is_matched m s ≡ true) ⊎ (is_matched m t ≡ true)
@@ -164,7 +164,7 @@ matched_at_end p m s t ended fit i j = by (is_matched m s) (is_matched m t) refl
         let w = some_match_or_see_is_enabled p m s t (record { send_issued = i; finder_issued = j; send_open = x; finder_open = y; fit = fit }) in
         absurd (ended (find_step (is_probe p w.finder) w.send w.finder) w.enabled)
 
-pub one_is_matched : (p : MpiProgram) (steps : List Step) (s t : ℕ) → IsRun p (opening p) steps → HasEnded p (after_all (opening p) steps) → are_fit p s t ≡ true → (world_of p steps).has (issued s) ≡ true → (world_of p steps).has (issued t) ≡ true → list_any (is_right (world_of p steps)) (map (λ u. is_true (matched s u)) (takers_of p s) ++ map (λ u. is_true (matched u t)) (sends_of p t)) ≡ true
+pub one_is_matched : (p : MpiProgram) (steps : List Step) (s t : ℕ) → IsRun p (opening p) steps → HasNoEnabledStep p (after_all (opening p) steps) → are_fit p s t ≡ true → (world_of p steps).has (issued s) ≡ true → (world_of p steps).has (issued t) ≡ true → list_any (is_right (world_of p steps)) (map (λ u. is_true (matched s u)) (takers_of p s) ++ map (λ u. is_true (matched u t)) (sends_of p t)) ≡ true
 one_is_matched p steps s t run ended fit i j =
     elim (matched_at_end p (after_all (opening p) steps) s t ended fit i j) [
       | inl h ↦
@@ -175,7 +175,7 @@ one_is_matched p steps s t run ended fit i j =
           any_append_right (is_right (world_of p steps)) (map (λ u. is_true (matched s u)) (takers_of p s)) _ (any_mapped (is_right (world_of p steps)) (λ u. is_true (matched u t)) (sends_of p t) w.send (has_send p w.send t w.pair.can.fit) (is_that-from _ w.send w.pair.taker_kept))
     ]
 
-pub pair_does_not_wait_holds : (p : MpiProgram) (steps : List Step) (s f : ℕ) → IsRun p (opening p) steps → HasEnded p (after_all (opening p) steps) → are_fit p s f ≡ true → clauses_hold (world_of p steps) (pair_does_not_wait p s f) ≡ true
+pub pair_does_not_wait_holds : (p : MpiProgram) (steps : List Step) (s f : ℕ) → IsRun p (opening p) steps → HasNoEnabledStep p (after_all (opening p) steps) → are_fit p s f ≡ true → clauses_hold (world_of p steps) (pair_does_not_wait p s f) ≡ true
 pair_does_not_wait_holds p steps s f run ended fit = and_both _ _ (or_not_not _ _ _ (one_is_matched p steps s f run ended fit)) refl
 
 pub no_pair_waits : NoPairWaits

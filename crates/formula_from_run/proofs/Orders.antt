@@ -7,7 +7,7 @@ use Rattle.semantics.specs.declared.state.Step.TheVariants.{Issue, Match, See}
 use Rattle.semantics.specs.Machine.{Configuration, opening, after_all}
 use Rattle.formula.specs.declared.facts.Event.{Event}
 use Rattle.formula.specs.declared.facts.Event.TheVariants.{Issue as issue_of, Match as match_of}
-use Rattle.formula.specs.Families.{event_at, place_of}
+use Rattle.formula.specs.Families.{event_at, place_of_event}
 use Rattle.formula_from_run.specs.Worlds.{is_that, is_event, clock_from}
 use Rattle.formula_from_run.specs.Laws.{ClocksDiffer}
 use Rattle.formula_from_run.proofs.Clocks.{happens, happens_or_never}
@@ -42,10 +42,10 @@ same_step p m steps e f i h g below =
     let also : is_event (after_all m (take i steps)) v.step f ≡ true = subst (λ (z : ℕ). is_event (after_all m (take z steps)) v.step f ≡ true) g v.is in
     one_event (after_all m (take i steps)) w.step e f is (subst (λ (z : Step). is_event (after_all m (take i steps)) z f ≡ true) same also)
 
-one_place_each : (p : MpiProgram) (m : Configuration) (steps : List Step) (e f : Event) → clock_from p m steps e ≡ clock_from p m steps f → place_of p e ≡ place_of p f
+one_place_each : (p : MpiProgram) (m : Configuration) (steps : List Step) (e f : Event) → clock_from p m steps e ≡ clock_from p m steps f → place_of_event p e ≡ place_of_event p f
 one_place_each p m steps e f same =
     elim (happens_or_never p m steps e) [
-      | inl soon ↦ ap (place_of p) (same_step p m steps e f (clock_from p m steps e) refl (sym same) soon)
+      | inl soon ↦ ap (place_of_event p) (same_step p m steps e f (clock_from p m steps e) refl (sym same) soon)
       | inr never ↦
           elim (happens_or_never p m steps f) [
             | inl soon ↦ absurd (omega (arith, same, never, soon))

@@ -19,7 +19,7 @@ use Rattle.formula.specs.declared.facts.Event.TheVariants.{Match as match_of}
 use Rattle.formula.specs.declared.facts.Fact.TheVariants.{Matched as matched}
 use Rattle.formula.specs.declared.facts.Statement.TheVariants.{Fails as is_false, Earlier as is_earlier}
 use Rattle.formula.specs.Families.{issued_before_match, seen_before_taken, without_later_sends, send_is_matched_before, taker_is_matched_before, pair_does_not_wait, see_clauses}
-use Rattle.formula_from_run.specs.Worlds.{HasEnded, clause_holds, clauses_hold, clock_from, world_of}
+use Rattle.formula_from_run.specs.Worlds.{HasNoEnabledStep, clause_holds, clauses_hold, clock_from, world_of}
 use Rattle.formula_from_run.specs.Laws.{ProbesSeeMessages}
 use Rattle.formula.proofs.Elements.{all_append}
 use Rattle.formula_from_run.proofs.Lists.{or_not_not, or_last, all_mapped_where, all_made_within, seeing_pairs_hold}
@@ -61,7 +61,7 @@ seen_before_taken_holds p steps s f run fit probe =
     all_mapped_where (clause_holds (world_of p steps)) (λ t. is_false (matched s f) ∷ is_false (matched s t) ∷ is_earlier (match_of f) (match_of t) ∷ []) (takes p s) (places p)
     (λ t taken. or_not_not _ _ _ (λ h g. or_last _ (seen_then_taken p steps s f t run probe (found p steps s f run fit h) (paired p steps s t run taken g))))
 
-see_clauses_hold : (p : MpiProgram) (steps : List Step) (s f : ℕ) → IsProgram p → IsRun p (opening p) steps → HasEnded p (after_all (opening p) steps) → are_fit p s f ≡ true → is_probe p f ≡ true → clauses_hold (world_of p steps) (see_clauses p s f) ≡ true
+see_clauses_hold : (p : MpiProgram) (steps : List Step) (s f : ℕ) → IsProgram p → IsRun p (opening p) steps → HasNoEnabledStep p (after_all (opening p) steps) → are_fit p s f ≡ true → is_probe p f ≡ true → clauses_hold (world_of p steps) (see_clauses p s f) ≡ true
 see_clauses_hold p steps s f program run ended fit probe =
     let test = clause_holds (world_of p steps) in
     all_append test (issued_before_match s f) _ (issued_before_match_holds p steps s f program.rank_order run fit)

@@ -22,8 +22,8 @@ use Rattle.semantics.specs.Machine.{Configuration, first_call, opening, after, a
 use Rattle.semantics.proofs.MachineLaws.{next_counts_issues}
 use Rattle.formula.specs.declared.facts.Fact.TheVariants.{Issued as issued}
 use Rattle.formula.specs.declared.facts.Statement.TheVariants.{Holds as is_true}
-use Rattle.formula.specs.Families.{previous, issue_does_not_wait}
-use Rattle.formula_from_run.specs.Worlds.{HasEnded, clause_holds, clauses_hold, world_of}
+use Rattle.formula.specs.Families.{previous_of_rank, issue_does_not_wait}
+use Rattle.formula_from_run.specs.Worlds.{HasNoEnabledStep, clause_holds, clauses_hold, world_of}
 use Rattle.formula_from_run.specs.Laws.{NoIssueWaits}
 use Rattle.formula.proofs.Elements.{and_both, or_left, or_right}
 use Rattle.formula_from_run.proofs.Lists.{or_last, all_made_range}
@@ -57,7 +57,7 @@ choice Never (Wait operation) = (false, refl)
 choice Always (Wait operation) = (false, refl)
 
 -- a call that is next can't wait where nothing is enabled
-next_goes : (p : MpiProgram) (m : Configuration) (c : ℕ) (call : Call) → HasEnded p m → call_at p c ≡ Some call → slice_get m.next call.rank ≡ Some c → has_returned_before p m call.rank c ≡ true → ⊥
+next_goes : (p : MpiProgram) (m : Configuration) (c : ℕ) (call : Call) → HasNoEnabledStep p m → call_at p c ≡ Some call → slice_get m.next call.rank ≡ Some c → has_returned_before p m call.rank c ≡ true → ⊥
 next_goes p m c call ended there next back =
     let b = choice p.policy call.kind in
     let one : holds_of (can_issue_call p m call.rank b.0 c) (Some call) ≡ true = and_both _ _ (and_both _ _ (eq-eqb call.rank call.rank refl) back) b.1 in
@@ -74,7 +74,7 @@ next_size p m (Match s t ∷ xs) = next_size p (after m (Match s t)) xs
 next_size p m (See s t ∷ xs) = next_size p (after m (See s t)) xs
 
 -- where a call isn't issued, and its rank has come to it, the rank goes on, so the run hasn't ended
-issued_at_end : (p : MpiProgram) (steps : List Step) (c : ℕ) (call : Call) → IsProgram p → IsRun p (opening p) steps → HasEnded p (after_all (opening p) steps) → call_at p c ≡ Some call → c ≤ slice_index (after_all (opening p) steps).next call.rank → has_returned_before p (after_all (opening p) steps) call.rank c ≡ true → (b : Bool) → is_issued p (after_all (opening p) steps) c ≡ b → is_issued p (after_all (opening p) steps) c ≡ true
+issued_at_end : (p : MpiProgram) (steps : List Step) (c : ℕ) (call : Call) → IsProgram p → IsRun p (opening p) steps → HasNoEnabledStep p (after_all (opening p) steps) → call_at p c ≡ Some call → c ≤ slice_index (after_all (opening p) steps).next call.rank → has_returned_before p (after_all (opening p) steps) call.rank c ≡ true → (b : Bool) → is_issued p (after_all (opening p) steps) c ≡ b → is_issued p (after_all (opening p) steps) c ≡ true
 issued_at_end p steps c call program run ended there from back true e = e
 issued_at_end p steps c call program run ended there from back false e =
     let m = after_all (opening p) steps in
@@ -100,7 +100,7 @@ one_rank (Some x) y call e same =
 back_if_returned : (p : MpiProgram) (m : Configuration) (r c : ℕ) → is_returned p m c ≡ true → has_returned_before p m r (suc c) ≡ true
 back_if_returned p m r c h = or_right (not (is_of_rank (call_at p c) r)) _ h
 
-after_one : (p : MpiProgram) (steps : List Step) (c : ℕ) → IsProgram p → IsRun p (opening p) steps → HasEnded p (after_all (opening p) steps) → suc c < length p.calls → are_of_one_rank p c (suc c) ≡ true → clauses_hold (world_of p steps) (issue_does_not_wait p (suc c) (Some c)) ≡ true
+after_one : (p : MpiProgram) (steps : List Step) (c : ℕ) → IsProgram p → IsRun p (opening p) steps → HasNoEnabledStep p (after_all (opening p) steps) → suc c < length p.calls → are_of_one_rank p c (suc c) ≡ true → clauses_hold (world_of p steps) (issue_does_not_wait p (suc c) (Some c)) ≡ true
 after_one p steps c program run ended within same =
     let m = after_all (opening p) steps in
     let call = there_within p.calls (suc c) within in
@@ -135,7 +135,7 @@ not_of_rank p m r c x there below =
     let other : is_of_rank (call_at p c) r ≡ false = ap (λ (z : Option Call). is_of_rank z r) there ∙ off in
     or_left (not (is_of_rank (call_at p c) r)) _ (rw other refl)
 
-pub first_one : (p : MpiProgram) (steps : List Step) (c : ℕ) → IsProgram p → IsRun p (opening p) steps → HasEnded p (after_all (opening p) steps) → suc c < length p.calls → are_of_one_rank p c (suc c) ≡ false → is_issued p (after_all (opening p) steps) (suc c) ≡ true
+pub first_one : (p : MpiProgram) (steps : List Step) (c : ℕ) → IsProgram p → IsRun p (opening p) steps → HasNoEnabledStep p (after_all (opening p) steps) → suc c < length p.calls → are_of_one_rank p c (suc c) ≡ false → is_issued p (after_all (opening p) steps) (suc c) ≡ true
 first_one p steps c program run ended within apart =
     let m = after_all (opening p) steps in
     let call = there_within p.calls (suc c) within in
@@ -146,21 +146,21 @@ first_one p steps c program run ended within apart =
     let from = reached p steps (suc c) call.0 program run call.1 (omega (arith, within)) (λ d x below there. let up = program.rank_order d c x before.0 (omega (arith, below)) there before.1 in omega (arith, up, less)) in
     issued_at_end p steps (suc c) call.0 program run ended call.1 from (not_of_rank p m call.0.rank c before.0 before.1 less) (is_issued p m (suc c)) refl
 
-pub very_first : (p : MpiProgram) (steps : List Step) → IsProgram p → IsRun p (opening p) steps → HasEnded p (after_all (opening p) steps) → 0 < length p.calls → is_issued p (after_all (opening p) steps) 0 ≡ true
+pub very_first : (p : MpiProgram) (steps : List Step) → IsProgram p → IsRun p (opening p) steps → HasNoEnabledStep p (after_all (opening p) steps) → 0 < length p.calls → is_issued p (after_all (opening p) steps) 0 ≡ true
 very_first p steps program run ended within =
     let call = there_within p.calls 0 within in
     issued_at_end p steps 0 call.0 program run ended call.1 (omega arith) refl (is_issued p (after_all (opening p) steps) 0) refl
 
 -- ---- the family
 
-previous_holds : (p : MpiProgram) (steps : List Step) (c : ℕ) (b : Bool) → IsProgram p → IsRun p (opening p) steps → HasEnded p (after_all (opening p) steps) → suc c < length p.calls → are_of_one_rank p c (suc c) ≡ b → clauses_hold (world_of p steps) (issue_does_not_wait p (suc c) (if b then Some c else None)) ≡ true
+previous_holds : (p : MpiProgram) (steps : List Step) (c : ℕ) (b : Bool) → IsProgram p → IsRun p (opening p) steps → HasNoEnabledStep p (after_all (opening p) steps) → suc c < length p.calls → are_of_one_rank p c (suc c) ≡ b → clauses_hold (world_of p steps) (issue_does_not_wait p (suc c) (if b then Some c else None)) ≡ true
 previous_holds p steps c true program run ended within same = after_one p steps c program run ended within same
 previous_holds p steps c false program run ended within apart = and_both _ _ (or_last _ (first_one p steps c program run ended within apart)) refl
 
-one_holds : (p : MpiProgram) (steps : List Step) (c : ℕ) → IsProgram p → IsRun p (opening p) steps → HasEnded p (after_all (opening p) steps) → c < length p.calls → clauses_hold (world_of p steps) (issue_does_not_wait p c (previous p c)) ≡ true
+one_holds : (p : MpiProgram) (steps : List Step) (c : ℕ) → IsProgram p → IsRun p (opening p) steps → HasNoEnabledStep p (after_all (opening p) steps) → c < length p.calls → clauses_hold (world_of p steps) (issue_does_not_wait p c (previous_of_rank p c)) ≡ true
 one_holds p steps zero program run ended within = and_both _ _ (or_last _ (very_first p steps program run ended within)) refl
 one_holds p steps (suc c) program run ended within = previous_holds p steps c (are_of_one_rank p c (suc c)) program run ended within refl
 
 pub no_issue_waits : NoIssueWaits
 no_issue_waits p steps program run ended =
-    all_made_range (clause_holds (world_of p steps)) (λ c. issue_does_not_wait p c (previous p c)) 0 (length p.calls) (length p.calls) (omega arith) (λ c _ below. one_holds p steps c program run ended below)
+    all_made_range (clause_holds (world_of p steps)) (λ c. issue_does_not_wait p c (previous_of_rank p c)) 0 (length p.calls) (length p.calls) (omega arith) (λ c _ below. one_holds p steps c program run ended below)

@@ -17,7 +17,7 @@ use Rattle.formula.specs.declared.facts.Statement.TheVariants.{Holds as is_true,
 use Rattle.nonovertake.specs.Earlier.{earlier_takers}
 use Rattle.formula.specs.Families.{sends_of, taker_is_matched_before, without_later_pairs, without_later_sends}
 use Rattle.formula_from_run.specs.Worlds.{is_right, clause_holds, clauses_hold, clock_from, world_of}
-use Rattle.formula_from_run.specs.Laws.{TakersDoNotOvertake, CallsAreMatchedOnce}
+use Rattle.formula_from_run.specs.Laws.{NoTakerOvertakes, CallsAreMatchedOnce}
 use Rattle.formula.proofs.Elements.{and_both, all_append}
 use Rattle.formula_from_run.proofs.Lists.{or_not, or_not_not, or_last, all_made_within, all_mapped_where, all_mapped_twice, in_filter, any_mapped, pairs_hold}
 use Rattle.formula_from_run.proofs.Pairings.{Received, received}
@@ -54,7 +54,7 @@ taker_is_matched_before_holds p steps s t e run fit below same fits =
     and_both _ _ (or_not _ _ (λ h. some_other_send p steps s t e run fits (at_end h) (first h)))
     (and_both _ _ (or_not _ _ (λ h. or_last _ (taker_before_it p steps s t e (at_end h) (first h)))) refl)
 
-pub takers_do_not_overtake : TakersDoNotOvertake
+pub takers_do_not_overtake : NoTakerOvertakes
 takers_do_not_overtake p steps program run =
     pairs_hold p (clause_holds (world_of p steps)) (λ s t. flat_map (taker_is_matched_before p s t) (earlier_takers p s t))
     (λ s t taken. all_made_within (clause_holds (world_of p steps)) (taker_is_matched_before p s t) (λ e. are_of_one_rank p e t && takes p s e) 0 t t (omega arith)

@@ -29,12 +29,12 @@ abbrev pub CallsAreMatchedOnce : Type 0
 CallsAreMatchedOnce = HoldsInRuns families.calls_are_matched_once
 
 -- In the world of a run sends don't overtake.
-abbrev pub SendsDoNotOvertake : Type 0
-SendsDoNotOvertake = HoldsInRuns families.sends_do_not_overtake
+abbrev pub NoSendOvertakes : Type 0
+NoSendOvertakes = HoldsInRuns families.sends_do_not_overtake
 
 -- In the world of a run takers don't overtake.
-abbrev pub TakersDoNotOvertake : Type 0
-TakersDoNotOvertake = HoldsInRuns families.takers_do_not_overtake
+abbrev pub NoTakerOvertakes : Type 0
+NoTakerOvertakes = HoldsInRuns families.takers_do_not_overtake
 
 -- In the world of a run that nothing can follow no pair waits.
 abbrev pub NoPairWaits : Type 0

@@ -15,7 +15,7 @@ use Rattle.formula.specs.declared.facts.Fact.{Fact}
 use Rattle.formula.specs.declared.facts.Fact.TheVariants.{Issued as issued, Buffered as buffered, Matched as matched, Unfinished as unfinished}
 use Rattle.formula.specs.declared.facts.Statement.{Statement}
 use Rattle.formula.specs.declared.facts.Statement.TheVariants.{Holds as is_true, Fails as is_false, Earlier as is_earlier}
-use Rattle.formula.specs.Families.{SymbolicClause, is_standard, place_of}
+use Rattle.formula.specs.Families.{SymbolicClause, is_standard, place_of_event}
 
 -- which facts hold, and for each event a number, its clock, by which events are ordered
 pub record World : Type 0 where
@@ -57,7 +57,7 @@ is_event m (See send other) (match_of probe) = other == probe
 -- How many of the steps, taken from this configuration on, come before the event. One that never
 -- happens comes after all steps, by its place in the list of events.
 abbrev pub clock_from : MpiProgram → Configuration → List Step → Event → ℕ
-clock_from p m [] e = place_of p e
+clock_from p m [] e = place_of_event p e
 clock_from p m (step ∷ steps) e = cond (is_event m step e) 0 (suc (clock_from p (after m step) steps e))
 
 -- the policy buffers every standard send
@@ -81,8 +81,8 @@ world_of p steps = record { has = has_fact p (after_all (opening p) steps); cloc
 -- ---- runs in whose worlds a family holds
 
 -- no step is enabled
-abbrev pub HasEnded : MpiProgram → Configuration → Type 0
-HasEnded p m = (step : Step) → IsEnabled p m step → ⊥
+abbrev pub HasNoEnabledStep : MpiProgram → Configuration → Type 0
+HasNoEnabledStep p m = (step : Step) → IsEnabled p m step → ⊥
 
 -- The clauses that each program has of a family hold in the world of each run of the program.
 abbrev pub HoldsInRuns : (MpiProgram → List SymbolicClause) → Type 0
@@ -93,7 +93,7 @@ HoldsInRuns family =
 abbrev pub HoldsAtEnds : (MpiProgram → List SymbolicClause) → Type 0
 HoldsAtEnds family =
     (p : MpiProgram) (steps : List Step) → IsProgram p → IsRun p (opening p) steps
-    → HasEnded p (after_all (opening p) steps) → IsTrue (clauses_hold (world_of p steps) (family p))
+    → HasNoEnabledStep p (after_all (opening p) steps) → IsTrue (clauses_hold (world_of p steps) (family p))
 
 -- They hold in the world of each stuck run.
 abbrev pub HoldsWhereStuck : (MpiProgram → List SymbolicClause) → Type 0

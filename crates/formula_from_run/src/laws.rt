@@ -2,7 +2,7 @@
 //! is satisfied by what each stuck run gives. Most families hold in the worlds of more runs: of
 //! all, or of all that nothing can follow.
 
-ghost use Rattle.formula_from_run.specs.Laws.{ProbesSeeMessages, CallsAreIssuedInOrder, CallsAreIssuedAfterReturns, MatchesComeAfterIssues, CallsAreMatchedOnce, SendsDoNotOvertake, TakersDoNotOvertake, NoPairWaits, NoIssueWaits, SomeRankIsUnfinished, ClocksDiffer, SendsAreBufferedAsAllowed, StuckRunsSatisfyFormula, UnsatisfiableHaveNoStuckRun};
+ghost use Rattle.formula_from_run.specs.Laws.{ProbesSeeMessages, CallsAreIssuedInOrder, CallsAreIssuedAfterReturns, MatchesComeAfterIssues, CallsAreMatchedOnce, NoSendOvertakes, NoTakerOvertakes, NoPairWaits, NoIssueWaits, SomeRankIsUnfinished, ClocksDiffer, SendsAreBufferedAsAllowed, StuckRunsSatisfyFormula, UnsatisfiableHaveNoStuckRun};
 
 /// In the world of a run calls are issued in order.
 pub fn calls_are_issued_in_order()
@@ -26,12 +26,12 @@ pub fn calls_are_matched_once()
 
 /// In the world of a run sends don't overtake.
 pub fn sends_do_not_overtake()
-    ensures { SendsDoNotOvertake }
+    ensures { NoSendOvertakes }
 {}
 
 /// In the world of a run takers don't overtake.
 pub fn takers_do_not_overtake()
-    ensures { TakersDoNotOvertake }
+    ensures { NoTakerOvertakes }
 {}
 
 /// In the world of a run that nothing can follow no pair waits.

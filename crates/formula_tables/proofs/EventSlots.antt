@@ -10,7 +10,7 @@ use Rattle.candidates.specs.Pairs.{places}
 use Rattle.formula.specs.Facts.{is_same_event}
 use Rattle.formula.specs.declared.facts.Event.{Event}
 use Rattle.formula.specs.declared.facts.Event.TheVariants.{Issue as issue_of, Match as match_of}
-use Rattle.formula.specs.Families.{events, place_of, is_finder}
+use Rattle.formula.specs.Families.{events, place_of_event, finds_message}
 use Rattle.formula.proofs.Elements.{Each, each_append, each_map, each_filter, each_range, each_mono, all_from_each}
 use Rattle.formula.proofs.Numbers.{position_map}
 use Rattle.formula_tables.specs.Places.{first_place}
@@ -50,9 +50,9 @@ IsBelow n (match_of t) = t < n
 events_below : (p : MpiProgram) → Each (IsBelow (length p.calls)) (events p)
 events_below p =
     let n = length p.calls in
-    each_append (IsBelow n) (map issue_of (places p)) (map match_of (filter (is_finder p) (places p)))
+    each_append (IsBelow n) (map issue_of (places p)) (map match_of (filter (finds_message p) (places p)))
     (each_map (IsBelow n) issue_of (places p) (each_range (λ c. c < n) 0 n (λ c _ below. omega (arith, below))))
-    (each_map (IsBelow n) match_of (filter (is_finder p) (places p)) (each_filter (λ t. t < n) (is_finder p) (places p) (each_range (λ t. is_finder p t ≡ true → t < n) 0 n (λ t _ below _. omega (arith, below)))))
+    (each_map (IsBelow n) match_of (filter (finds_message p) (places p)) (each_filter (λ t. t < n) (finds_message p) (places p) (each_range (λ t. finds_message p t ≡ true → t < n) 0 n (λ t _ below _. omega (arith, below)))))
 
 test_true : (a b : ℕ) → a < b → nat_lt a b ≡ true
 test_true a b h = grind (arith, nat_tests)
@@ -91,15 +91,15 @@ told_apart n (match_of t) (match_of u) below =
 slots_of_events : (p : MpiProgram) → event_slots p ≡ map (event_slot (length p.calls)) (events p)
 slots_of_events p =
     let n = length p.calls in
-    let takers = filter (is_finder p) (places p) in
+    let takers = filter (finds_message p) (places p) in
     let first : range_with_len 0 n ≡ map (event_slot n) (map issue_of (places p)) =
     sym (map_map (event_slot n) issue_of (places p) ∙ (map_each (λ c. event_slot n (issue_of c)) (λ c. c) (places p) (each_range (λ c. event_slot n (issue_of c) ≡ c) 0 n (λ c _ below. chosen c n c (n + n) (omega (arith, below)))) ∙ map_same (places p))) in
     let second : map (λ t. n + t) takers ≡ map (event_slot n) (map match_of takers) =
-    sym (map_map (event_slot n) match_of takers ∙ map_each (λ t. event_slot n (match_of t)) (λ t. n + t) takers (each_filter (λ t. event_slot n (match_of t) ≡ n + t) (is_finder p) (places p) (each_range (λ t. is_finder p t ≡ true → event_slot n (match_of t) ≡ n + t) 0 n (λ t _ below _. chosen t n (n + t) (n + n) (omega (arith, below)))))) in
+    sym (map_map (event_slot n) match_of takers ∙ map_each (λ t. event_slot n (match_of t)) (λ t. n + t) takers (each_filter (λ t. event_slot n (match_of t) ≡ n + t) (finds_message p) (places p) (each_range (λ t. finds_message p t ≡ true → event_slot n (match_of t) ≡ n + t) 0 n (λ t _ below _. chosen t n (n + t) (n + n) (omega (arith, below)))))) in
     ap (λ l. l ++ map (λ t. n + t) takers) first ∙ (ap (λ l. map (event_slot n) (map issue_of (places p)) ++ l) second ∙ sym (map-append (event_slot n) (map issue_of (places p)) (map match_of takers)))
 
 -- an event's place is that of its number
-pub event_place : (p : MpiProgram) (e : Event) → first_place (event_slot (length p.calls) e) (event_slots p) ≡ place_of p e
+pub event_place : (p : MpiProgram) (e : Event) → first_place (event_slot (length p.calls) e) (event_slots p) ≡ place_of_event p e
 event_place p e =
     let n = length p.calls in
     place_by_number (is_same_event e) (event_slot n) (event_slot n e) (events p) (event_slots p) (slots_of_events p)
@@ -118,9 +118,9 @@ slots_below p =
 pub slots_count : (p : MpiProgram) → length (event_slots p) ≡ length (events p)
 slots_count p = ap length (slots_of_events p) ∙ length-map (events p) (event_slot (length p.calls))
 
-pub events_count : (p : MpiProgram) → length (events p) ≡ length p.calls + length (filter (is_finder p) (places p))
+pub events_count : (p : MpiProgram) → length (events p) ≡ length p.calls + length (filter (finds_message p) (places p))
 events_count p =
-    let takers = filter (is_finder p) (places p) in
+    let takers = filter (finds_message p) (places p) in
     let issues : length (map issue_of (places p)) ≡ length (places p) = length-map (places p) issue_of in
     let matches : length (map match_of takers) ≡ length takers = length-map takers match_of in
     let both = length-append (map issue_of (places p)) (map match_of takers) in

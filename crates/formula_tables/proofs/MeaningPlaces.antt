@@ -17,7 +17,7 @@ use Rattle.formula.specs.Numbering.{facts as facts_of}
 use Rattle.formula.proofs.Elements.{Each, each_from}
 use Rattle.formula.proofs.Numbers.{size_positive}
 use Rattle.formula.proofs.Used.{each_used}
-use Rattle.formula_tables.specs.Meanings.{MeaningParts, meanings_by, meanings_in, meaning_of, of_pair, parts_of}
+use Rattle.formula_tables.specs.Meanings.{MeaningParts, meanings_by, meanings_in, meaning_of, of_pair, meaning_parts_of}
 use Rattle.formula_tables.proofs.VariableNumbers.{blocks_length}
 
 -- ---- lists
@@ -124,12 +124,12 @@ some_bits p used size used_is size_is some =
     let positive = first_of_each (0 < clock_size p) (used_pairs p) (each_used p (λ _. 0 < clock_size p) (λ e f _ _ is_used. size_positive p e f is_used)) (omega (arith, some, count)) in
     omega (arith, positive, size_is)
 
-pub parts_are : (p : MpiProgram) (facts : List Fact) (most size : ℕ) (used : List (ℕ × ℕ)) → facts ≡ facts_of p → most ≡ length (events p) → size ≡ clock_size p → used ≡ used_pairs p → parts_by facts most size used ≡ parts_of p
+pub parts_are : (p : MpiProgram) (facts : List Fact) (most size : ℕ) (used : List (ℕ × ℕ)) → facts ≡ facts_of p → most ≡ length (events p) → size ≡ clock_size p → used ≡ used_pairs p → parts_by facts most size used ≡ meaning_parts_of p
 parts_are p facts most size used facts_are most_is size_is used_are =
     ap (λ l. parts_by l most size used) facts_are ∙ (ap (λ (n : ℕ). parts_by (facts_of p) n size used) most_is ∙
     (ap (λ (n : ℕ). parts_by (facts_of p) (length (events p)) n used) size_is ∙ ap (λ l. parts_by (facts_of p) (length (events p)) (clock_size p) l) used_are))
 
-pub meaning_at : (p : MpiProgram) (variable : ℕ) (parts : MeaningParts) → (variable ≡ 0 → ⊥) → parts ≡ parts_of p → slice_get (meanings_in parts) (variable - 1) ≡ meaning_of p variable
+pub meaning_at : (p : MpiProgram) (variable : ℕ) (parts : MeaningParts) → (variable ≡ 0 → ⊥) → parts ≡ meaning_parts_of p → slice_get (meanings_in parts) (variable - 1) ≡ meaning_of p variable
 meaning_at p zero parts some are = absurd (some refl)
 meaning_at p (suc place) parts some are =
     let same : suc place - 1 ≡ place = omega arith in

@@ -26,8 +26,8 @@ abbrev pub meanings_in : MeaningParts → List Meaning
 meanings_in parts = meanings_by parts.facts parts.events parts.size parts.used
 
 -- the parts of a program's meanings
-abbrev pub parts_of : MpiProgram → MeaningParts
-parts_of p = record { facts = facts p; events = length (events p); size = clock_size p; used = used_pairs p }
+abbrev pub meaning_parts_of : MpiProgram → MeaningParts
+meaning_parts_of p = record { facts = facts p; events = length (events p); size = clock_size p; used = used_pairs p }
 
 -- the variable of a pair of events at a place among those of the pair
 abbrev pub of_pair : ℕ × ℕ → ℕ → Meaning

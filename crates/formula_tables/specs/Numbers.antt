@@ -16,7 +16,7 @@ pub record IsSmall (p : MpiProgram) : Type 0 where
 
 -- the events are those of the program; facts and used pairs are told apart by their numbers; and
 -- clocks have so many bits
-pub record AreNumbers (p q : MpiProgram) (fact_slots used_slots : List ℕ) (size : ℕ) : Type 0 where
+pub record AreVariableTables (p q : MpiProgram) (fact_slots used_slots : List ℕ) (size : ℕ) : Type 0 where
   pub small : IsSmall p
   pub events_are : q ≡ p
   pub facts_are : fact_slots ≡ map (fact_slot (length p.calls)) (facts p)

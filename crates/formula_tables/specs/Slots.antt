@@ -7,7 +7,7 @@ use Rattle.formula.specs.declared.facts.Event.{Event}
 use Rattle.formula.specs.declared.facts.Event.TheVariants.{Issue as issue_of, Match as match_of}
 use Rattle.formula.specs.declared.facts.Fact.{Fact}
 use Rattle.formula.specs.declared.facts.Fact.TheVariants.{Issued as issued, Buffered as buffered, Matched as matched, Unfinished as unfinished}
-use Rattle.formula.specs.Families.{is_finder}
+use Rattle.formula.specs.Families.{finds_message}
 
 -- the number of an event among those of so many calls; twice as many where it isn't one of them
 abbrev pub event_slot : ℕ → Event → ℕ
@@ -16,7 +16,7 @@ event_slot calls (match_of t) = if nat_lt t calls then calls + t else calls + ca
 
 -- the numbers of a program's events
 abbrev pub event_slots : MpiProgram → List ℕ
-event_slots p = range_with_len 0 (length p.calls) ++ map (λ t. length p.calls + t) (filter (is_finder p) (places p))
+event_slots p = range_with_len 0 (length p.calls) ++ map (λ t. length p.calls + t) (filter (finds_message p) (places p))
 
 -- the number of a pair of two of so many places; past all such pairs where one isn't among them
 abbrev pub pair_slot : ℕ → ℕ → ℕ → ℕ

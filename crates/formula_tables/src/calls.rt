@@ -2,7 +2,7 @@
 
 ghost use Rattle.std.specs.Prelude.{◌≡◌, ◌+◌, not};
 ghost use Rattle.callorder.specs.Programs.{are_of_one_rank};
-ghost use Rattle.formula.specs.Families.{is_finder, is_standard, receive_on_handle, previous, rank_of, fetch_of, when_done, when_returned};
+ghost use Rattle.formula.specs.Families.{finds_message, is_standard, receive_on_handle, previous_of_rank, rank_of, fetch_of, when_done, when_returned};
 
 use callorder::{Call, Kind, Program};
 use calltext::Mode;
@@ -10,7 +10,7 @@ use formula::{Condition, Event};
 
 /// Whether the call is a receive, a matched probe or a probe.
 pub fn is_finder(program: &Program, call: usize) -> bool
-    ensures { result ≡ is_finder program.now call }
+    ensures { result ≡ finds_message program.now call }
 {
     match program.call(call) {
         None => false,
@@ -46,7 +46,7 @@ pub fn receive_on_handle(program: &Program, call: usize) -> Option<usize>
 
 /// The call directly before this one, if there is one of the same rank; calls count from 0.
 pub fn previous(program: &Program, call: usize) -> Option<usize>
-    ensures { result ≡ previous program.now call }
+    ensures { result ≡ previous_of_rank program.now call }
 {
     if call == 0 {
         return None;

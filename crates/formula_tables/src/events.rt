@@ -3,7 +3,7 @@
 ghost use Rattle.std.specs.Prelude.{◌≡◌, ◌<◌, ◌≤◌, ◌^◌, ◌+◌, [], ◌∷◌, ◌++◌, if◌then◌else◌, IfOk, OnOk, length, map};
 ghost use Rattle.std.specs.List.{filter, range_with_len};
 ghost use Rattle.candidates.specs.Pairs.{places};
-ghost use Rattle.formula.specs.Families.{events, place_of, is_finder};
+ghost use Rattle.formula.specs.Families.{events, place_of_event, finds_message};
 ghost use Rattle.formula_tables.specs.Slots.{event_slot, event_slots};
 
 use crate::calls;
@@ -69,7 +69,7 @@ fn push_match(
 ) -> Result<(), AllocError>
     requires few { calls < 2 ^ 62 }
     requires taker { taker < calls }
-    ensures { OnOk result (slots.new.items ≡ slots.old.items ++ (if is_finder program.now taker then (calls + taker) ∷ [] else [])) }
+    ensures { OnOk result (slots.new.items ≡ slots.old.items ++ (if finds_message program.now taker then (calls + taker) ∷ [] else [])) }
 {
     if calls::is_finder(program, taker) {
         slots.push(calls + taker)?;
@@ -81,7 +81,7 @@ fn push_match(
 fn push_matches(slots: &mut Vec<usize>, program: &Program, calls: usize) -> Result<(), AllocError>
     requires { calls < 2 ^ 62 }
     ensures { OnOk result (slots.new.items ≡ slots.old.items ++ map (λ t.
-        calls + t) (filter (is_finder program.now) (range_with_len 0 calls))) }
+        calls + t) (filter (finds_message program.now) (range_with_len 0 calls))) }
 {
     for taker in 0..calls {
         push_match(slots, program, calls, taker)?;
@@ -100,7 +100,7 @@ fn slots(alloc: Global, program: &Program) -> Result<Vec<usize>, AllocError>
 
 fn count_takers(program: &Program) -> usize
     ensures few { result ≤ length program.now.calls }
-    ensures same { result ≡ length (filter (is_finder program.now) (places program.now)) }
+    ensures same { result ≡ length (filter (finds_message program.now) (places program.now)) }
 {
     (0..program.calls().len())
         .filter(|call| calls::is_finder(program, *call))
@@ -142,7 +142,7 @@ impl<'a> Events<'a> {
     /// The place of the event, from 0, or the number of all events where it is none of the
     /// program's.
     pub fn place_of(&self, event: &Event) -> usize
-        ensures { result ≡ place_of self.now event.now }
+        ensures { result ≡ place_of_event self.now event.now }
     {
         self.places.first(slot(self.program.calls().len(), event))
     }

@@ -3,7 +3,7 @@
 ghost use Rattle.std.specs.Prelude.{◌≡◌, ◌+◌, ◌*◌, ◌^◌, ◌<◌, ◌≤◌, length, map, IfOk};
 ghost use Rattle.std.specs.List.{position_or_len};
 ghost use Rattle.formula.specs.declared.facts.Meaning.TheVariants.{OfFact as fact_is, ClockBit as clock_bit, Before as before, SameBits as same_bits};
-ghost use Rattle.formula.specs.Families.{events as events_of, place_of};
+ghost use Rattle.formula.specs.Families.{events as events_of, place_of_event};
 ghost use Rattle.formula.specs.Orders.{clock_size, used_pairs, place_of_pair};
 ghost use Rattle.formula.specs.Numbering.{facts as facts_of, meanings, is_same_fact, is_same_meaning, variable_of, literal, literal_of, earlier_literal};
 ghost use Rattle.formula_tables.specs.Slots.{pair_slot, fact_slot};
@@ -29,13 +29,13 @@ pub struct Variables<'a> {
 
 impl<'a> Model for Variables<'a> {
     ghost use Rattle.callorder.specs.Programs.{MpiProgram};
-    ghost use Rattle.formula_tables.specs.Numbers.{AreNumbers};
+    ghost use Rattle.formula_tables.specs.Numbers.{AreVariableTables};
 
     ghost Value = { MpiProgram };
 
     ghost view = { λ v. v.program.now };
 
-    ghost invariant = { λ v. AreNumbers v.program.now v.events v.facts v.used v.size };
+    ghost invariant = { λ v. AreVariableTables v.program.now v.events v.facts v.used v.size };
 }
 
 /// The number of a pair of two of so many places.
@@ -139,7 +139,7 @@ impl<'a> Variables<'a> {
     /// The place of the event among those of the program, from 0, or the number of all events where
     /// it is none.
     pub fn event_place(&self, event: &Event) -> usize
-        ensures { result ≡ place_of self.now event.now }
+        ensures { result ≡ place_of_event self.now event.now }
     {
         self.events.place_of(event)
     }

@@ -34,33 +34,33 @@ listed_line marked number (byte ∷ words) =
 abbrev pub last_call : Configuration → ℕ → ℕ
 last_call m rank = slice_index m.next rank - 1
 
-abbrev pub line_of : Option Label → List ℕ
-line_of None = []
-line_of (Some told) = told.line ∷ []
+abbrev pub label_line : Option Label → List ℕ
+label_line None = []
+label_line (Some told) = told.line ∷ []
 
 -- the number of the line of the call that a rank waits in; none of one that is finished
 abbrev pub waited_line : MpiProgram → Configuration → List Label → ℕ → List ℕ
-waited_line p m calls rank = if is_rank_finished p m rank then [] else line_of (slice_get calls (last_call m rank))
+waited_line p m calls rank = if is_rank_finished p m rank then [] else label_line (slice_get calls (last_call m rank))
 
 abbrev pub waited_lines : MpiProgram → Configuration → List Label → List ℕ
 waited_lines p m calls = columns (waited_line p m calls) p.ranks
 
-abbrev pub entry_of : Option Label → List ℕ
-entry_of None = []
-entry_of (Some told) = listed_line true told.line told.words
+abbrev pub label_entry : Option Label → List ℕ
+label_entry None = []
+label_entry (Some told) = listed_line true told.line told.words
 
 -- the call that a rank waits in, by its line; nothing of one that is finished
 abbrev pub waited_entry : MpiProgram → Configuration → List Label → ℕ → List ℕ
-waited_entry p m calls rank = if is_rank_finished p m rank then [] else entry_of (slice_get calls (last_call m rank))
+waited_entry p m calls rank = if is_rank_finished p m rank then [] else label_entry (slice_get calls (last_call m rank))
 
 -- ---- the listing
 
-abbrev pub is_in : List ℕ → ℕ → Bool
-is_in numbers number = list_any (λ other. other == number) numbers
+abbrev pub is_marked_line : List ℕ → ℕ → Bool
+is_marked_line numbers number = list_any (λ other. other == number) numbers
 
 -- the line at a place, from 0
 abbrev pub listed_at : List ℕ → List (List ℕ) → ℕ → List ℕ
-listed_at marks lines place = listed_line (is_in marks (place + 1)) (place + 1) (unwrap_or (slice_get lines place) [])
+listed_at marks lines place = listed_line (is_marked_line marks (place + 1)) (place + 1) (unwrap_or (slice_get lines place) [])
 
 abbrev pub listed : List ℕ → List (List ℕ) → List ℕ
 listed marks lines = columns (listed_at marks lines) (length lines)

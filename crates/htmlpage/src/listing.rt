@@ -3,7 +3,7 @@
 ghost use Rattle.std.specs.Prelude.{◌≡◌, ◌+◌, ◌-◌, ◌<◌, ◌++◌, ◌==◌, IfOk, OnOk, length, map, slice_get, slice_index};
 ghost use Rattle.std.specs.List.{flat_map, slice_split};
 ghost use Rattle.charts.specs.Chart.{columns};
-ghost use Rattle.htmlpage.specs.Page.{entry_of, is_in, last_call, line_of, listed, listed_at, listed_line, listing, mark_back, mark_front, waited_entry, waited_line, waited_lines};
+ghost use Rattle.htmlpage.specs.Page.{label_entry, is_marked_line, last_call, label_line, listed, listed_at, listed_line, listing, mark_back, mark_front, waited_entry, waited_line, waited_lines};
 
 use callorder::LongProgram;
 use charts::put_escaped;
@@ -61,7 +61,7 @@ fn last_call(end: &State, rank: u32) -> usize
 
 /// Adds the line of the call at a place.
 fn push_line(lines: &mut Vec<usize>, calls: &[CallLabel], call: usize) -> Result<(), AllocError>
-    ensures { OnOk result (lines.new.items ≡ lines.old.items ++ line_of (slice_get calls.now call)) }
+    ensures { OnOk result (lines.new.items ≡ lines.old.items ++ label_line (slice_get calls.now call)) }
 {
     match calls.get(call) {
         None => Ok(()),
@@ -106,7 +106,7 @@ fn waited_lines(
 
 /// Writes the call at a place as a marked line.
 fn put_entry(out: &mut Vec<u8>, calls: &[CallLabel], call: usize) -> Result<(), AllocError>
-    ensures { OnOk result (out.new.items ≡ out.old.items ++ entry_of (slice_get calls.now call)) }
+    ensures { OnOk result (out.new.items ≡ out.old.items ++ label_entry (slice_get calls.now call)) }
 {
     match calls.get(call) {
         None => Ok(()),
@@ -146,7 +146,7 @@ fn put_waited_entries(
 }
 
 fn is_in(numbers: &[usize], number: usize) -> bool
-    ensures { result ≡ is_in numbers.now number }
+    ensures { result ≡ is_marked_line numbers.now number }
 {
     numbers.iter().any(|other| *other == number)
 }

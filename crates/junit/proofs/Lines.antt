@@ -4,7 +4,7 @@ use Rattle.std.specs.Prelude.{◌==◌, ◌-◌}
 use Rattle.std.proofs.Math.Seq.{take-append_seam}
 use Rattle.std.proofs.lemmas.List.{length-append}
 use Rattle.plaintext.specs.TextLines.{text_lines}
-use Rattle.junit.specs.Report.{first_line, first_of}
+use Rattle.junit.specs.Report.{first_text_line, first_of_lines}
 
 -- a text has a line
 pub record HasFirst (bytes : List ℕ) : Type 0 where
@@ -20,9 +20,9 @@ has_first (b ∷ bytes) = go (has_first bytes) (b == 10) refl
     go below true e = record { line = 10 ∷ []; others = text_lines bytes; are = rw e refl }
     go below false e = record { line = b ∷ below.line; others = below.others; are = rw (e, below.are) refl }
 
-pub first_line_is : (text front behind : List ℕ) → text_lines text ≡ (front ++ 10 ∷ []) ∷ text_lines behind → front ≡ first_line text
+pub first_line_is : (text front behind : List ℕ) → text_lines text ≡ (front ++ 10 ∷ []) ∷ text_lines behind → front ≡ first_text_line text
 first_line_is text front behind e =
     let next = has_first behind in
-    sym (ap first_of (e ∙ ap (λ (lines : List (List ℕ)). (front ++ 10 ∷ []) ∷ lines) next.are)
+    sym (ap first_of_lines (e ∙ ap (λ (lines : List (List ℕ)). (front ++ 10 ∷ []) ∷ lines) next.are)
     ∙ ap (λ (n : ℕ). take n (front ++ 10 ∷ [])) (omega (arith, length-append front (10 ∷ [])))
     ∙ take-append_seam front (10 ∷ []))

@@ -8,17 +8,17 @@ use Rattle.junit.specs.declared.report.Outcome.TheVariants.{Passed, Failed, Brok
 use Rattle.junit.specs.declared.report.Report.{Report}
 
 -- a question mark stands for a byte that is no printable ASCII
-abbrev pub plain_byte : ℕ → List ℕ
-plain_byte byte = if nat_lt byte 32 || nat_lt 126 byte then 63 ∷ [] else byte ∷ []
+abbrev pub printable_byte : ℕ → List ℕ
+printable_byte byte = if nat_lt byte 32 || nat_lt 126 byte then 63 ∷ [] else byte ∷ []
 
 -- what stands for a byte: an entity where it has a meaning of its own in XML; LF stays
-abbrev pub escape : ℕ → List ℕ
-escape byte =
+abbrev pub escaped_byte : ℕ → List ℕ
+escaped_byte byte =
     if byte == 38 then codes "&amp;" else if byte == 60 then codes "&lt;" else if byte == 62 then codes "&gt;"
-    else if byte == 34 then codes "&quot;" else if byte == 10 then 10 ∷ [] else plain_byte byte
+    else if byte == 34 then codes "&quot;" else if byte == 10 then 10 ∷ [] else printable_byte byte
 
 abbrev pub escaped : List ℕ → List ℕ
-escaped = flat_map escape
+escaped = flat_map escaped_byte
 
 -- a test: its name, what came of it, and the text that tells it
 pub record Case : Type 0 where
@@ -27,28 +27,28 @@ pub record Case : Type 0 where
   pub text : List ℕ
 
 -- the first of these lines, without the LF that parts it from the next one
-abbrev pub first_of : List (List ℕ) → List ℕ
-first_of [] = []
-first_of (line ∷ []) = line
-first_of (line ∷ (next ∷ others)) = take (length line - 1) line
+abbrev pub first_of_lines : List (List ℕ) → List ℕ
+first_of_lines [] = []
+first_of_lines (line ∷ []) = line
+first_of_lines (line ∷ (next ∷ others)) = take (length line - 1) line
 
-abbrev pub first_line : List ℕ → List ℕ
-first_line text = first_of (text_lines text)
+abbrev pub first_text_line : List ℕ → List ℕ
+first_text_line text = first_of_lines (text_lines text)
 
 -- an element with a text, and the first line of that as its message
 abbrev pub element : List ℕ → List ℕ → List ℕ
 element tag text =
-    codes "<" ++ (tag ++ (codes " message=\"" ++ (escaped (first_line text) ++ (codes "\">" ++ (escaped text ++ (codes "</" ++ (tag ++ codes ">")))))))
+    codes "<" ++ (tag ++ (codes " message=\"" ++ (escaped (first_text_line text) ++ (codes "\">" ++ (escaped text ++ (codes "</" ++ (tag ++ codes ">")))))))
 
 -- what is told of a test that didn't pass
-abbrev pub told : Outcome → List ℕ → List ℕ
-told Passed text = []
-told Failed text = element (codes "failure") text
-told Broken text = element (codes "error") text
+abbrev pub outcome_text : Outcome → List ℕ → List ℕ
+outcome_text Passed text = []
+outcome_text Failed text = element (codes "failure") text
+outcome_text Broken text = element (codes "error") text
 
 abbrev pub case_text : Case → List ℕ
 case_text c =
-    codes "<testcase classname=\"mpiprove\" name=\"" ++ (escaped c.name ++ (codes "\">" ++ (told c.outcome c.text ++ codes "</testcase>\n")))
+    codes "<testcase classname=\"mpiprove\" name=\"" ++ (escaped c.name ++ (codes "\">" ++ (outcome_text c.outcome c.text ++ codes "</testcase>\n")))
 
 abbrev pub is_failed : Outcome → Bool
 is_failed Passed = false

@@ -1,13 +1,13 @@
 //! Texts in XML.
 
 ghost use Rattle.std.specs.Prelude.{◌≡◌, ◌++◌, OnOk};
-ghost use Rattle.junit.specs.Report.{escape, escaped, plain_byte};
+ghost use Rattle.junit.specs.Report.{escaped_byte, escaped, printable_byte};
 
 use std::alloc::AllocError;
 
 /// Writes a byte, or a question mark where it is no printable ASCII.
 fn put_plain(out: &mut Vec<u8>, byte: u8) -> Result<(), AllocError>
-    ensures { OnOk result (out.new.items ≡ out.old.items ++ plain_byte byte) }
+    ensures { OnOk result (out.new.items ≡ out.old.items ++ printable_byte byte) }
 {
     if byte < 32 || byte > 126 {
         out.push(b'?')?;
@@ -19,7 +19,7 @@ fn put_plain(out: &mut Vec<u8>, byte: u8) -> Result<(), AllocError>
 
 /// Writes what stands for a byte.
 fn put_escape(out: &mut Vec<u8>, byte: u8) -> Result<(), AllocError>
-    ensures { OnOk result (out.new.items ≡ out.old.items ++ escape byte) }
+    ensures { OnOk result (out.new.items ≡ out.old.items ++ escaped_byte byte) }
 {
     if byte == b'&' {
         out.extend_from_slice(b"&amp;")

@@ -1,7 +1,7 @@
 //! The report.
 
 ghost use Rattle.std.specs.Prelude.{◌≡◌, ◌+◌, ◌∷◌, ◌++◌, [], IfOk, List, OnOk};
-ghost use Rattle.junit.specs.Report.{Case, IsOf, case_text, element, first_line, report_text, told};
+ghost use Rattle.junit.specs.Report.{Case, IsOf, case_text, element, first_text_line, report_text, outcome_text};
 
 use crate::escaping::put_escaped;
 use plaintext::next_line;
@@ -40,7 +40,7 @@ fn next(number: usize) -> Result<usize, AllocError>
 
 /// The first line of a text, without its LF.
 fn first_line(text: &[u8]) -> &[u8]
-    ensures { result.now ≡ first_line text.now }
+    ensures { result.now ≡ first_text_line text.now }
 {
     match next_line(text) {
         None => text,
@@ -64,7 +64,7 @@ fn put_element(out: &mut Vec<u8>, tag: &str, text: &[u8]) -> Result<(), AllocErr
 
 /// Writes what is told of a test that didn't pass.
 fn put_told(out: &mut Vec<u8>, outcome: Outcome, text: &[u8]) -> Result<(), AllocError>
-    ensures { OnOk result (out.new.items ≡ out.old.items ++ told outcome text.now) }
+    ensures { OnOk result (out.new.items ≡ out.old.items ++ outcome_text outcome text.now) }
 {
     match outcome {
         Outcome::Passed => Ok(()),

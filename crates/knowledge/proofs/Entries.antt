@@ -8,7 +8,7 @@ use Rattle.callorder.specs.Programs.{MpiProgram, call_at, are_of_one_rank}
 use Rattle.semantics.specs.Machine.{Configuration}
 use Rattle.races.specs.Tells.{Table, tells_return_call, tells_issue, IsJustified}
 use Rattle.races.proofs.Steps.{one_rank}
-use Rattle.knowledge.specs.parts.Knowledge.{count_known, Covers, CoversJustified, IsTold}
+use Rattle.knowledge.specs.parts.Knowledge.{count_known, Covers, CoversJustified, FollowsFromColumn}
 use Rattle.knowledge.specs.Knowledge.{entry_at, column_table, TablesOfColumnsAreJustified, table_of}
 use Rattle.knowledge.proofs.Less.{issue_less}
 
@@ -61,10 +61,10 @@ all_cover p e finder known is knows justified c h =
     unwrap_or-slice_get (replicate (length p.calls) true) c false ∙ get_or-replicate (length p.calls) c true false within in
     entry_made finder known c (subst (λ (z : List Bool). entry_at z c ≡ true) (sym is) there)
 
-pub all_told_up_to : (p : MpiProgram) (e : Configuration) (finder : ℕ) (known : List Bool) (n : ℕ) → length known ≤ n → ((c : ℕ) → c < n → IsTold p e finder known c) → (c : ℕ) → IsTold p e finder known c
+pub all_told_up_to : (p : MpiProgram) (e : Configuration) (finder : ℕ) (known : List Bool) (n : ℕ) → length known ≤ n → ((c : ℕ) → c < n → FollowsFromColumn p e finder known c) → (c : ℕ) → FollowsFromColumn p e finder known c
 all_told_up_to p e finder known n all told c h = let within = entry_within known c h in told c (omega (arith, within, all)) h
 
-pub told_justified : (p : MpiProgram) (e : Configuration) (finder : ℕ) (known : List Bool) → ((c : ℕ) → IsTold p e finder known c) → IsJustified p e (column_table finder known)
+pub told_justified : (p : MpiProgram) (e : Configuration) (finder : ℕ) (known : List Bool) → ((c : ℕ) → FollowsFromColumn p e finder known c) → IsJustified p e (column_table finder known)
 told_justified p e finder known told c f h =
     let parts = and_true (f == finder) (entry_at known c) h in
     subst (λ (z : ℕ). tells_issue p e (column_table finder known) c z ≡ true) (sym (eqb-true f finder parts.0)) (told c parts.1)
@@ -93,7 +93,7 @@ pub record IsPassed (p : MpiProgram) (e : Configuration) (finder : ℕ) (first n
   pub covers : CoversJustified p e finder first → CoversJustified p e finder now
   pub fewer : changed ≡ true → count_known now < count_known first
   pub no_more : count_known now ≤ count_known first
-  pub told : changed ≡ false → (c : ℕ) → c < n → IsTold p e finder now c
+  pub told : changed ≡ false → (c : ℕ) → c < n → FollowsFromColumn p e finder now c
   pub places : length now ≡ length first
 
 pub none_passed : (p : MpiProgram) (e : Configuration) (finder : ℕ) (known : List Bool) → IsPassed p e finder known known false 0
@@ -107,7 +107,7 @@ none_passed p e finder known =
     }
 
 -- the call n is looked at, and out of the column now or as it was
-pub one_more : (p : MpiProgram) (e : Configuration) (finder : ℕ) (first now new : List Bool) (changed out : Bool) (n : ℕ) → IsPassed p e finder first now changed n → (CoversJustified p e finder now → CoversJustified p e finder new) → (out ≡ true → count_known new < count_known now) → (out ≡ false → new ≡ now) → (out ≡ false → IsTold p e finder new n) → length new ≡ length now → IsPassed p e finder first new (changed || out) (n + 1)
+pub one_more : (p : MpiProgram) (e : Configuration) (finder : ℕ) (first now new : List Bool) (changed out : Bool) (n : ℕ) → IsPassed p e finder first now changed n → (CoversJustified p e finder now → CoversJustified p e finder new) → (out ≡ true → count_known new < count_known now) → (out ≡ false → new ≡ now) → (out ≡ false → FollowsFromColumn p e finder new n) → length new ≡ length now → IsPassed p e finder first new (changed || out) (n + 1)
 one_more p e finder first now new changed out n passed covers less same told places =
     record {
       covers = λ h. covers (passed.covers h);
@@ -126,11 +126,11 @@ one_more p e finder first now new changed out n passed covers less same told pla
     fewer_by true false before less same h = let below = before refl in let equal = ap count_known (same refl) in omega (arith, equal, below)
     fewer_by false false before less same h = absurd (cc)
 
-    told_by : (changed out : Bool) → (changed ≡ false → (c : ℕ) → c < n → IsTold p e finder now c) → (out ≡ false → new ≡ now) → (out ≡ false → IsTold p e finder new n) → (changed || out) ≡ false → (c : ℕ) → c < n + 1 → IsTold p e finder new c
+    told_by : (changed out : Bool) → (changed ≡ false → (c : ℕ) → c < n → FollowsFromColumn p e finder now c) → (out ≡ false → new ≡ now) → (out ≡ false → FollowsFromColumn p e finder new n) → (changed || out) ≡ false → (c : ℕ) → c < n + 1 → FollowsFromColumn p e finder new c
     told_by true out before same told h c lt = absurd (cc)
     told_by false true before same told h c lt = absurd (cc)
     told_by false false before same told h c lt =
         elim (cases_lt c n) [
-          | inl below ↦ subst (λ (z : List Bool). IsTold p e finder z c) (sym (same refl)) (before refl c below)
-          | inr ge ↦ let at : n ≡ c = omega (arith, ge, lt) in subst (λ (z : ℕ). IsTold p e finder new z) at (told refl)
+          | inl below ↦ subst (λ (z : List Bool). FollowsFromColumn p e finder z c) (sym (same refl)) (before refl c below)
+          | inr ge ↦ let at : n ≡ c = omega (arith, ge, lt) in subst (λ (z : ℕ). FollowsFromColumn p e finder new z) at (told refl)
         ]

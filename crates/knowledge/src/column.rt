@@ -2,7 +2,7 @@
 
 ghost use Rattle.std.specs.Prelude.{◌≡◌, ◌<◌, ℕ, IsTrue, IfOk, length, slice_set, replicate, true, false};
 ghost use Rattle.races.specs.Tells.{Table, IsJustified};
-ghost use Rattle.knowledge.specs.parts.Knowledge.{count_known, Covers, CoversJustified, IsTold};
+ghost use Rattle.knowledge.specs.parts.Knowledge.{count_known, Covers, CoversJustified, FollowsFromColumn};
 ghost use Rattle.knowledge.specs.Knowledge.{column_table, with_partners};
 
 use crate::rules::{knows, tells_issue};
@@ -30,7 +30,7 @@ fn take_out_untold(
         CoversJustified program.now (with_partners partners.now) finder known.new.items }
     ensures fewer { result ≡ true → count_known known.new.items < count_known known.old.items }
     ensures same { result ≡ false → known.new.items ≡ known.old.items }
-    ensures told { result ≡ false → IsTold program.now (with_partners partners.now) finder known.new.items call }
+    ensures told { result ≡ false → FollowsFromColumn program.now (with_partners partners.now) finder known.new.items call }
     ensures places { length known.new.items ≡ length known.old.items }
 {
     if !knows(known.as_slice(), finder, call) {
@@ -54,7 +54,7 @@ fn take_out_all_untold(
     ensures covers { CoversJustified program.now (with_partners partners.now) finder known.old.items →
         CoversJustified program.now (with_partners partners.now) finder known.new.items }
     ensures fewer { result ≡ true → count_known known.new.items < count_known known.old.items }
-    ensures told { result ≡ false → (c : ℕ) → IsTold program.now (with_partners partners.now) finder known.new.items c }
+    ensures told { result ≡ false → (c : ℕ) → FollowsFromColumn program.now (with_partners partners.now) finder known.new.items c }
 {
     let mut changed = false;
     for call in 0..known.len() {
@@ -68,7 +68,7 @@ fn take_out_all_untold(
 fn settle(program: &LongProgram, partners: &[Option<usize>], known: &mut Vec<bool>, finder: usize)
     ensures covers { CoversJustified program.now (with_partners partners.now) finder known.old.items →
         CoversJustified program.now (with_partners partners.now) finder known.new.items }
-    ensures told { (c : ℕ) → IsTold program.now (with_partners partners.now) finder known.new.items c }
+    ensures told { (c : ℕ) → FollowsFromColumn program.now (with_partners partners.now) finder known.new.items c }
 {
     'passes: loop {
         let changed = take_out_all_untold(program, partners, known, finder);

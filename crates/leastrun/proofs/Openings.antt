@@ -4,7 +4,7 @@ use Rattle.calltext.proofs.Conjunctions.{and_true, and_both}
 use Rattle.callorder.specs.Programs.{MpiProgram, are_fit, is_probe, are_of_one_rank}
 use Rattle.semantics.specs.declared.state.Step.{Step}
 use Rattle.semantics.specs.declared.state.Step.TheVariants.{Issue}
-use Rattle.semantics.specs.Configurations.{is_open}
+use Rattle.semantics.specs.Configurations.{is_open_call}
 use Rattle.semantics.specs.Machine.{Configuration, is_issued, is_matched, CanFind, IsEnabled}
 use Rattle.run_laws.specs.Laws.{IsOpenPair}
 use Rattle.run_laws.specs.Places.{find_step}
@@ -17,10 +17,10 @@ use Rattle.leastrun.proofs.Slotting.{not_itself}
 
 -- ---- open calls
 
-pub open_made : (p : MpiProgram) (m : Configuration) (c : ℕ) → is_issued p m c ≡ true → is_matched m c ≡ false → is_open p m c ≡ true
+pub open_made : (p : MpiProgram) (m : Configuration) (c : ℕ) → is_issued p m c ≡ true → is_matched m c ≡ false → is_open_call p m c ≡ true
 open_made p m c issued free = and_both (is_issued p m c) (not (is_matched m c)) issued (ap not free)
 
-pub open_parts : (p : MpiProgram) (m : Configuration) (c : ℕ) → is_open p m c ≡ true → (is_issued p m c ≡ true) × (is_matched m c ≡ false)
+pub open_parts : (p : MpiProgram) (m : Configuration) (c : ℕ) → is_open_call p m c ≡ true → (is_issued p m c ≡ true) × (is_matched m c ≡ false)
 open_parts p m c h = let both = and_true (is_issued p m c) (not (is_matched m c)) h in (both.0, not_true (is_matched m c) both.1)
 
 or_first : (a b : Bool) → a ≡ true → (a || b) ≡ true
@@ -31,19 +31,19 @@ or_second : (a b : Bool) → b ≡ true → (a || b) ≡ true
 or_second true b h = refl
 or_second false b h = h
 
-pub mate_made : (p : MpiProgram) (m : Configuration) (c y : ℕ) → is_open p m y ≡ true → (are_fit p c y ≡ true) ⊎ (are_fit p y c ≡ true) → is_mate p m c y ≡ true
+pub mate_made : (p : MpiProgram) (m : Configuration) (c y : ℕ) → is_open_call p m y ≡ true → (are_fit p c y ≡ true) ⊎ (are_fit p y c ≡ true) → is_mate p m c y ≡ true
 mate_made p m c y opened fit =
-    and_both (is_open p m y) (are_fit p c y || are_fit p y c) opened
+    and_both (is_open_call p m y) (are_fit p c y || are_fit p y c) opened
     (elim fit [
       | inl h ↦ or_first (are_fit p c y) (are_fit p y c) h
       | inr h ↦ or_second (are_fit p c y) (are_fit p y c) h
     ])
 
-pub mate_open : (p : MpiProgram) (m : Configuration) (c y : ℕ) → is_mate p m c y ≡ true → is_open p m y ≡ true
-mate_open p m c y h = (and_true (is_open p m y) (are_fit p c y || are_fit p y c) h).0
+pub mate_open : (p : MpiProgram) (m : Configuration) (c y : ℕ) → is_mate p m c y ≡ true → is_open_call p m y ≡ true
+mate_open p m c y h = (and_true (is_open_call p m y) (are_fit p c y || are_fit p y c) h).0
 
 pub mate_fits : (p : MpiProgram) (m : Configuration) (c y : ℕ) → is_mate p m c y ≡ true → (are_fit p c y ≡ true) ⊎ (are_fit p y c ≡ true)
-mate_fits p m c y h = or_parts (are_fit p c y) (are_fit p y c) (and_true (is_open p m y) (are_fit p c y || are_fit p y c) h).1
+mate_fits p m c y h = or_parts (are_fit p c y) (are_fit p y c) (and_true (is_open_call p m y) (are_fit p c y || are_fit p y c) h).1
 
 -- ---- what may be found
 
@@ -54,9 +54,9 @@ earlier_issued p m e s below same issued =
     let there : s < slice_index m.next w.0.rank = subst (λ (z : ℕ). s < slice_index m.next z) (sym w.4) within in
     within_issued p m e w.0 w.2 (omega (arith, there, below))
 
-can_find : (p : MpiProgram) (m : Configuration) (s f : ℕ) → is_open p m s ≡ true → is_open p m f ≡ true → are_fit p s f ≡ true
-    → ((e : ℕ) → e < s → are_of_one_rank p e s ≡ true → is_open p m e ≡ true → are_fit p e f ≡ true → ⊥)
-    → ((g : ℕ) → g < f → are_of_one_rank p g f ≡ true → is_open p m g ≡ true → are_fit p s g ≡ true → ⊥) → CanFind p m s f
+can_find : (p : MpiProgram) (m : Configuration) (s f : ℕ) → is_open_call p m s ≡ true → is_open_call p m f ≡ true → are_fit p s f ≡ true
+    → ((e : ℕ) → e < s → are_of_one_rank p e s ≡ true → is_open_call p m e ≡ true → are_fit p e f ≡ true → ⊥)
+    → ((g : ℕ) → g < f → are_of_one_rank p g f ≡ true → is_open_call p m g ≡ true → are_fit p s g ≡ true → ⊥) → CanFind p m s f
 can_find p m s f send finder fit sends takers =
     let one = open_parts p m s send in
     let two = open_parts p m f finder in
@@ -76,7 +76,7 @@ can_find p m s f send finder fit sends takers =
       ];
     }
 
-pub pair_made : (p : MpiProgram) (m : Configuration) (s f : ℕ) → is_open p m s ≡ true → is_open p m f ≡ true → are_fit p s f ≡ true → IsOpenPair p m s f
+pub pair_made : (p : MpiProgram) (m : Configuration) (s f : ℕ) → is_open_call p m s ≡ true → is_open_call p m f ≡ true → are_fit p s f ≡ true → IsOpenPair p m s f
 pair_made p m s f send finder fit =
     let one = open_parts p m s send in
     let two = open_parts p m f finder in
@@ -102,7 +102,7 @@ pub find_next : (buffering : Buffering) (p : MpiProgram) (m : Configuration) (st
 find_next Least p m step find = record { enabled = find.enabled; choice = λ rank e. absurd (find.no_issue rank true e); settled = λ rank buffered e. absurd (find.no_issue rank buffered e) }
 find_next Most p m step find = record { enabled = find.enabled; choice = λ rank e can. absurd (find.no_issue rank false e); settled = λ rank buffered e. absurd (find.no_issue rank buffered e) }
 
-by_send : (p : MpiProgram) (m : Configuration) (c x : ℕ) → IsFresh p m (Some c) → is_open p m c ≡ true → IsLeastMate p m c x → are_fit p c x ≡ true → CanFind p m c x
+by_send : (p : MpiProgram) (m : Configuration) (c x : ℕ) → IsFresh p m (Some c) → is_open_call p m c ≡ true → IsLeastMate p m c x → are_fit p c x ≡ true → CanFind p m c x
 by_send p m c x fresh opened found fit =
     can_find p m c x opened (mate_open p m c x found.mate) fit
     (λ e below one free fits. elim (fresh.only e x (pair_made p m e x free (mate_open p m c x found.mate) fits)) [
@@ -111,7 +111,7 @@ by_send p m c x fresh opened found fit =
     ])
     (λ g below one free fits. let least : x ≤ g = found.least g (mate_made p m c g free (inl fits)) one in absurd (omega (arith, least, below)))
 
-by_finder : (p : MpiProgram) (m : Configuration) (c x : ℕ) → IsFresh p m (Some c) → is_open p m c ≡ true → IsLeastMate p m c x → are_fit p x c ≡ true → CanFind p m x c
+by_finder : (p : MpiProgram) (m : Configuration) (c x : ℕ) → IsFresh p m (Some c) → is_open_call p m c ≡ true → IsLeastMate p m c x → are_fit p x c ≡ true → CanFind p m x c
 by_finder p m c x fresh opened found fit =
     can_find p m x c (mate_open p m c x found.mate) opened fit
     (λ e below one free fits. let least : x ≤ e = found.least e (mate_made p m c e free (inr fits)) one in absurd (omega (arith, least, below)))
@@ -125,23 +125,23 @@ where_not a b (inl h) off = absurd (cc)
 where_not a b (inr h) off = h
 
 -- the step between the fresh call and its earliest mate may be taken
-pub find_between : (p : MpiProgram) (m : Configuration) (c x : ℕ) → IsFresh p m (Some c) → is_open p m c ≡ true → IsLeastMate p m c x → IsFind p m (step_between p c x)
+pub find_between : (p : MpiProgram) (m : Configuration) (c x : ℕ) → IsFresh p m (Some c) → is_open_call p m c ≡ true → IsLeastMate p m c x → IsFind p m (step_between p c x)
 find_between p m c x fresh opened found =
     elim (is_or_not (are_fit p c x)) [
       | inl fits ↦ subst (λ (z : Bool). IsFind p m (cond z (find_step (is_probe p x) c x) (find_step (is_probe p c) x c))) (sym fits) (is_find p m c x (by_send p m c x fresh opened found fits))
       | inr off ↦ subst (λ (z : Bool). IsFind p m (cond z (find_step (is_probe p x) c x) (find_step (is_probe p c) x c))) (sym off) (is_find p m x c (by_finder p m c x fresh opened found (where_not (are_fit p c x) (are_fit p x c) (mate_fits p m c x found.mate) off)))
     ]
 
-pub pair_open : (p : MpiProgram) (m : Configuration) (s f : ℕ) → IsOpenPair p m s f → (is_open p m s ≡ true) × (is_open p m f ≡ true)
+pub pair_open : (p : MpiProgram) (m : Configuration) (s f : ℕ) → IsOpenPair p m s f → (is_open_call p m s ≡ true) × (is_open_call p m f ≡ true)
 pair_open p m s f pair = (open_made p m s pair.send_issued pair.send_open, open_made p m f pair.finder_issued pair.finder_open)
 
 -- no pair is open where the fresh call is not
-pub none_where_closed : (p : MpiProgram) (m : Configuration) (c : ℕ) → IsFresh p m (Some c) → is_open p m c ≡ false → NoOpenPair p m
+pub none_where_closed : (p : MpiProgram) (m : Configuration) (c : ℕ) → IsFresh p m (Some c) → is_open_call p m c ≡ false → NoOpenPair p m
 none_where_closed p m c fresh off s f pair =
     let both = pair_open p m s f pair in
     elim (fresh.only s f pair) [
-      | inl is ↦ let on : is_open p m c ≡ true = subst (λ (z : ℕ). is_open p m z ≡ true) (sym (same_some c s is)) both.0 in absurd (cc)
-      | inr is ↦ let on : is_open p m c ≡ true = subst (λ (z : ℕ). is_open p m z ≡ true) (sym (same_some c f is)) both.1 in absurd (cc)
+      | inl is ↦ let on : is_open_call p m c ≡ true = subst (λ (z : ℕ). is_open_call p m z ≡ true) (sym (same_some c s is)) both.0 in absurd (cc)
+      | inr is ↦ let on : is_open_call p m c ≡ true = subst (λ (z : ℕ). is_open_call p m z ≡ true) (sym (same_some c f is)) both.1 in absurd (cc)
     ]
 
 -- nor where it has no mate

@@ -6,7 +6,7 @@ use Rattle.std.proofs.lemmas.Option.{slice_get_within}
 use Rattle.std.proofs.lemmas.Bool.Decides.{nat_tests}
 use Rattle.callorder.specs.declared.calls.Call.{Call}
 use Rattle.callorder.specs.Programs.{MpiProgram, call_at, are_fit}
-use Rattle.semantics.specs.Configurations.{is_open}
+use Rattle.semantics.specs.Configurations.{is_open_call}
 use Rattle.semantics.specs.Machine.{Configuration}
 use Rattle.races.proofs.Steps.{is_or_not, same_some, one_rank_back}
 use Rattle.leastrun.specs.declared.slot.Form.{Form}
@@ -48,7 +48,7 @@ not_same c y differ is = differ (same_some c y is)
 not_own : (p : MpiProgram) (c y : ℕ) → are_fit p c y ≡ true → c ≡ y → ⊥
 not_own p c y fit same = not_itself p c (subst (λ (z : ℕ). are_fit p c z ≡ true) (sym same) fit)
 
-send_stands : (p : MpiProgram) (m : Configuration) (t : Tables) (c y q : ℕ) (call : Call) → IsKept p (Some c) m t → call_at p c ≡ Some call → finder_slot call ≡ Some q → is_open p m y ≡ true → are_fit p y c ≡ true → StandsIn t.sends q y
+send_stands : (p : MpiProgram) (m : Configuration) (t : Tables) (c y q : ℕ) (call : Call) → IsKept p (Some c) m t → call_at p c ≡ Some call → finder_slot call ≡ Some q → is_open_call p m y ≡ true → are_fit p y c ≡ true → StandsIn t.sends q y
 send_stands p m t c y q call kept here slot opened fit =
     let a = fit_of p y c fit in
     let same : a.finder ≡ call = same_at p c a.finder call a.finder_there here in
@@ -174,7 +174,7 @@ module _ (p : MpiProgram) (m : Configuration) (forms : List Form) (finders : Row
             (old_best x before (λ y mate stands. let low : z ≤ y = new_least z y some mate stands in let high : x ≤ z = grind (arith, nat_tests) in omega (arith, low, high)))
       ]
 
-finder_met : (p : MpiProgram) (m : Configuration) (t : Tables) (c y upto : ℕ) (call : Call) → IsKept p (Some c) m t → call_at p c ≡ Some call → length t.forms.items ≤ upto → is_open p m y ≡ true → are_fit p c y ≡ true → IsMet t.forms.items t.finders call upto y
+finder_met : (p : MpiProgram) (m : Configuration) (t : Tables) (c y upto : ℕ) (call : Call) → IsKept p (Some c) m t → call_at p c ≡ Some call → length t.forms.items ≤ upto → is_open_call p m y ≡ true → are_fit p c y ≡ true → IsMet t.forms.items t.finders call upto y
 finder_met p m t c y upto call kept here all opened fit =
     let a = fit_of p c y fit in
     let same : a.send ≡ call = same_at p c a.send call a.send_there here in

@@ -7,7 +7,7 @@ use Rattle.callorder.specs.Programs.{MpiProgram, call_at, are_of_one_rank}
 use Rattle.callorder.specs.Calls.{holds_of}
 use Rattle.semantics.specs.declared.state.Step.{Step}
 use Rattle.semantics.specs.declared.state.Step.TheVariants.{Issue, Match, See}
-use Rattle.semantics.specs.Configurations.{is_open}
+use Rattle.semantics.specs.Configurations.{is_open_call}
 use Rattle.semantics.specs.Machine.{Configuration, after, is_issued, is_issued_call, is_matched}
 use Rattle.semantics.proofs.Lengths.{Issues, issues, issued_grows, matched_grows}
 use Rattle.races.proofs.Steps.{is_or_not, next_is, now_issued, issued_within, one_rank, same_some}
@@ -41,7 +41,7 @@ issued_before_find p m (Issue r b) c other h = absurd (other r b refl)
 issued_before_find p m (Match s t) c other h = sym (issued_call_same m (slice_set (slice_set m.partner s (Some t)) t (Some s)) c (call_at p c)) ∙ h
 issued_before_find p m (See s f) c other h = sym (issued_call_same m (slice_set m.partner f (Some s)) c (call_at p c)) ∙ h
 
-open_before_find : (p : MpiProgram) (m : Configuration) (step : Step) (c : ℕ) → ((rank : ℕ) (buffered : Bool) → step ≡ Issue rank buffered → ⊥) → is_open p (after m step) c ≡ true → is_open p m c ≡ true
+open_before_find : (p : MpiProgram) (m : Configuration) (step : Step) (c : ℕ) → ((rank : ℕ) (buffered : Bool) → step ≡ Issue rank buffered → ⊥) → is_open_call p (after m step) c ≡ true → is_open_call p m c ≡ true
 open_before_find p m step c other h =
     let parts = open_parts p (after m step) c h in
     open_made p m c (issued_before_find p m step c other parts.0) (free_before m step c parts.1)
@@ -50,7 +50,7 @@ issued_before_issue : (p : MpiProgram) (m : Configuration) (r : ℕ) (b : Bool) 
 issued_before_issue p m r b c w differ h =
     issued_call_before m r w.place c b (call_at p c) (slice_get_within m.next r w.place w.next) (next_is p m r w) differ h
 
-open_before_issue : (p : MpiProgram) (m : Configuration) (r : ℕ) (b : Bool) (c : ℕ) → (w : Issues p m r) → c ≢ w.place → is_open p (after m (Issue r b)) c ≡ true → is_open p m c ≡ true
+open_before_issue : (p : MpiProgram) (m : Configuration) (r : ℕ) (b : Bool) (c : ℕ) → (w : Issues p m r) → c ≢ w.place → is_open_call p (after m (Issue r b)) c ≡ true → is_open_call p m c ≡ true
 open_before_issue p m r b c w differ h =
     let parts = open_parts p (after m (Issue r b)) c h in
     open_made p m c (issued_before_issue p m r b c w differ parts.0) (free_before m (Issue r b) c parts.1)
@@ -191,14 +191,14 @@ kept_posted p m t new c fresh kept added =
       finder_order = order_grown p m t.finders new.finders c (fresh.issued c refl) (λ q i d there one. fresh.last c d refl (kept.finder_order.issued q i d there) one) added.finders kept.finder_order;
     }
   where
-    sent_there : (d : ℕ) (other : Call) → is_open p m d ≡ true → call_at p d ≡ Some other → IsSendIn t.forms.items new.sends other d
+    sent_there : (d : ℕ) (other : Call) → is_open_call p m d ≡ true → call_at p d ≡ Some other → IsSendIn t.forms.items new.sends other d
     sent_there d other opened there i q form listed slot = elim (cases_eq c d) [
       | inl same ↦ subst (λ (z : ℕ). StandsIn new.sends q z) same (added.sent other (subst (λ (z : ℕ). call_at p z ≡ Some other) (sym same) there) i q form listed slot)
       | inr differ ↦ grown_there t.sends new.sends c q d added.sends (kept.sent d other opened (not_some c d differ) there i q form listed slot)
     ]
 
 -- a fresh call that isn't open needs no place
-pub kept_closed : (p : MpiProgram) (m : Configuration) (t : Tables) (c : ℕ) → IsKept p (Some c) m t → is_open p m c ≡ false → IsKept p None m t
+pub kept_closed : (p : MpiProgram) (m : Configuration) (t : Tables) (c : ℕ) → IsKept p (Some c) m t → is_open_call p m c ≡ false → IsKept p None m t
 kept_closed p m t c kept closed =
     record {
       all_forms = kept.all_forms;
@@ -208,8 +208,8 @@ kept_closed p m t c kept closed =
       finder_order = kept.finder_order;
     }
   where
-    not_this : (d : ℕ) → is_open p m d ≡ true → c ≡ d → ⊥
-    not_this d opened same = let still : is_open p m c ≡ true = subst (λ (z : ℕ). is_open p m z ≡ true) (sym same) opened in absurd (cc)
+    not_this : (d : ℕ) → is_open_call p m d ≡ true → c ≡ d → ⊥
+    not_this d opened same = let still : is_open_call p m c ≡ true = subst (λ (z : ℕ). is_open_call p m z ≡ true) (sym same) opened in absurd (cc)
 
 -- ---- what is matched is taken off
 

@@ -6,7 +6,7 @@ use Rattle.calltext.specs.Limits.{long}
 use Rattle.callorder.specs.declared.calls.Call.{Call}
 use Rattle.callorder.specs.ProgramRules.{IsProgramWithin}
 use Rattle.callorder.specs.Programs.{MpiProgram, call_at}
-use Rattle.semantics.specs.Configurations.{is_open}
+use Rattle.semantics.specs.Configurations.{is_open_call}
 use Rattle.semantics.specs.Machine.{Configuration, opening, is_issued, is_issued_call}
 use Rattle.callorder.proofs.Lookups.{slice_get_of_append}
 use Rattle.callorder.specs.Calls.{holds_of, fits}
@@ -140,8 +140,8 @@ none_fresh p m fresh none_open none =
 
 -- all open calls below this one, rising, and no other
 pub record AreOpenBelow (p : MpiProgram) (m : Configuration) (end : ℕ) (calls : List ℕ) : Type 0 where
-  pub all : (c : ℕ) → c < end → is_open p m c ≡ true → (i : ℕ) × (slice_get calls i ≡ Some c)
-  pub are : (i c : ℕ) → slice_get calls i ≡ Some c → is_open p m c ≡ true
+  pub all : (c : ℕ) → c < end → is_open_call p m c ≡ true → (i : ℕ) × (slice_get calls i ≡ Some c)
+  pub are : (i c : ℕ) → slice_get calls i ≡ Some c → is_open_call p m c ≡ true
   pub below : (i c : ℕ) → slice_get calls i ≡ Some c → c < end
   pub rise : (i j c d : ℕ) → i < j → slice_get calls i ≡ Some c → slice_get calls j ≡ Some d → c ≤ d
 
@@ -158,11 +158,11 @@ none_below p m calls none =
     }
 
 -- a call that isn't open is passed
-pub below_passed : (p : MpiProgram) (m : Configuration) (end : ℕ) (calls : List ℕ) → AreOpenBelow p m end calls → is_open p m end ≡ false → AreOpenBelow p m (end + 1) calls
+pub below_passed : (p : MpiProgram) (m : Configuration) (end : ℕ) (calls : List ℕ) → AreOpenBelow p m end calls → is_open_call p m end ≡ false → AreOpenBelow p m (end + 1) calls
 below_passed p m end calls opens closed =
     record {
       all = λ c low opened. elim (cases_eq c end) [
-        | inl same ↦ absurd (let still : is_open p m end ≡ true = subst (λ (z : ℕ). is_open p m z ≡ true) same opened in let never : ⊥ = cc in never)
+        | inl same ↦ absurd (let still : is_open_call p m end ≡ true = subst (λ (z : ℕ). is_open_call p m z ≡ true) same opened in let never : ⊥ = cc in never)
         | inr differ ↦ opens.all c (omega (arith, low, differ)) opened
       ];
       are = opens.are;
@@ -171,7 +171,7 @@ below_passed p m end calls opens closed =
     }
 
 -- an open call is put at the end
-pub below_put : (p : MpiProgram) (m : Configuration) (end : ℕ) (calls new : List ℕ) → AreOpenBelow p m end calls → is_open p m end ≡ true → new ≡ calls ++ end ∷ [] → AreOpenBelow p m (end + 1) new
+pub below_put : (p : MpiProgram) (m : Configuration) (end : ℕ) (calls new : List ℕ) → AreOpenBelow p m end calls → is_open_call p m end ≡ true → new ≡ calls ++ end ∷ [] → AreOpenBelow p m (end + 1) new
 below_put p m end calls new opens opened more =
     record {
       all = λ c low is. elim (cases_eq c end) [
@@ -180,7 +180,7 @@ below_put p m end calls new opens opened more =
       ];
       are = λ i c there. elim (old_or_last i c there) [
         | inl old ↦ opens.are i c old.0
-        | inr last ↦ subst (λ (z : ℕ). is_open p m z ≡ true) (sym last.1) opened
+        | inr last ↦ subst (λ (z : ℕ). is_open_call p m z ≡ true) (sym last.1) opened
       ];
       below = λ i c there. elim (old_or_last i c there) [
         | inl old ↦ omega (arith, opens.below i c old.0)
@@ -204,7 +204,7 @@ below_put p m end calls new opens opened more =
       | inr back ↦ inr (omega (arith, back.1), (only_one end c back.0 back.2).1)
     ]
 
-opened_within : (p : MpiProgram) (m : Configuration) (c : ℕ) → is_open p m c ≡ true → c < length p.calls
+opened_within : (p : MpiProgram) (m : Configuration) (c : ℕ) → is_open_call p m c ≡ true → c < length p.calls
 opened_within p m c opened = by_call (call_at p c) refl (open_parts p m c opened).0
   where
     by_call : (x : Option Call) → call_at p c ≡ x → holds_of (is_issued_call m c) x ≡ true → c < length p.calls

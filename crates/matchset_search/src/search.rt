@@ -1,7 +1,7 @@
 //! The search itself: one task after the other.
 
 ghost use Rattle.std.specs.Prelude.{◌≤◌, []};
-ghost use Rattle.cdcl.specs.parts.Searches.{IfEnded, IsCounted, IsNotBudget, IsRight};
+ghost use Rattle.cdcl.specs.parts.Searches.{IfEnded, IsBudgetSpent, IsNotBudget, IsRight};
 
 use crate::engine::Conflict;
 use crate::explorer::Explorer;
@@ -225,7 +225,7 @@ impl<'e> Explorer<'e> {
         batch: &mut Batch,
     ) -> Counted
         ensures most { result.conflicts ≤ budget }
-        ensures exact { IsCounted budget result.conflicts result.ending }
+        ensures exact { IsBudgetSpent budget result.conflicts result.ending }
         ensures right { IsRight formula.now [] result.ending }
     {
         let mut counted = 0u64;
@@ -263,7 +263,7 @@ impl<'e> Explorer<'e> {
         batch: &mut Batch,
     ) -> Counted
         ensures most { result.conflicts ≤ budget }
-        ensures exact { IsCounted budget result.conflicts result.ending }
+        ensures exact { IsBudgetSpent budget result.conflicts result.ending }
         ensures right { IsRight encoded.now.formula [] result.ending }
     {
         self.portion.lines = usize::try_from(budget).unwrap_or(usize::MAX);

@@ -22,7 +22,7 @@ use Rattle.run_laws.specs.Laws.{IsOpenPair}
 use Rattle.run_laws.proofs.Descent.{some_match_or_see_is_enabled}
 use Rattle.formula_from_run.proofs.Pairings.{finding}
 use Rattle.narrowing.specs.declared.taken.Taken.TheVariants as taken
-use Rattle.narrowing.specs.Narrowed.{named, named_pattern, narrowed_kind, narrowed_call, IsNarrowed}
+use Rattle.narrowing.specs.Narrowed.{without_star, named_pattern, narrowed_kind, narrowed_call, IsNarrowed}
 use Rattle.narrowing.specs.Ways.{way_to, way_to_call}
 use Rattle.narrowing.proofs.Alike.{same_call, same_issued, same_of_rank, same_one_rank, same_opening, same_has_next, run_from_each}
 
@@ -42,11 +42,11 @@ may_be_kept s t policy kind b = refl
 
 -- ---- what fits
 
-covered : (wanted : Option ℕ) (number x : ℕ) → covers (named wanted number) x ≡ true → covers wanted x ≡ true
+covered : (wanted : Option ℕ) (number x : ℕ) → covers (without_star wanted number) x ≡ true → covers wanted x ≡ true
 covered None number x h = refl
 covered (Some wanted) number x h = h
 
-covered_now : (wanted : Option ℕ) (number x : ℕ) → number ≡ x → covers wanted x ≡ true → covers (named wanted number) x ≡ true
+covered_now : (wanted : Option ℕ) (number x : ℕ) → number ≡ x → covers wanted x ≡ true → covers (without_star wanted number) x ≡ true
 covered_now None number x e h = eq-eqb number x e
 covered_now (Some wanted) number x e h = h
 

@@ -11,12 +11,12 @@ use Rattle.narrowing.specs.declared.taken.Taken.{Taken}
 use Rattle.narrowing.specs.declared.taken.Taken.TheVariants as taken
 
 -- this number in the place of a star
-abbrev pub named : Option ℕ → ℕ → Option ℕ
-named None number = Some number
-named (Some wanted) number = Some wanted
+abbrev pub without_star : Option ℕ → ℕ → Option ℕ
+without_star None number = Some number
+without_star (Some wanted) number = Some wanted
 
 abbrev pub named_pattern : ℕ → ℕ → Pattern → Pattern
-named_pattern source tag pattern = record pattern { source = named pattern.source source; tag = named pattern.tag tag }
+named_pattern source tag pattern = record pattern { source = without_star pattern.source source; tag = without_star pattern.tag tag }
 
 -- The call of this kind with no more left open: a standard send in buffered mode, or synchronous,
 -- or a call that finds messages with this source and this tag in the place of stars. Other calls

@@ -1,7 +1,7 @@
 //! Whether a program is another one in which a call leaves less open.
 
 ghost use Rattle.std.specs.Prelude.{◌≡◌, ◌↔◌, IsTrue};
-ghost use Rattle.narrowing.specs.Narrowed.{named, named_pattern, narrowed_kind, narrowed_call, IsNarrowedAt, IsNarrowed};
+ghost use Rattle.narrowing.specs.Narrowed.{without_star, named_pattern, narrowed_kind, narrowed_call, IsNarrowedAt, IsNarrowed};
 
 use crate::taken::Taken;
 use callorder::{Call, Kind, LongProgram, Pattern};
@@ -9,7 +9,7 @@ use calltext::Mode;
 
 /// A number in the place of a star.
 fn named(wanted: Option<u32>, number: u32) -> Option<u32>
-    ensures { result ≡ named wanted number }
+    ensures { result ≡ without_star wanted number }
 {
     match wanted {
         None => Some(number),

@@ -3,8 +3,8 @@ use Rattle.std.specs.Prelude.{◌≡◌, ℕ, ◌+◌, ◌*◌, ◌^◌, ◌<◌
 use Rattle.std.specs.List.{flat_map, AllByRecursion}
 
 -- the pages one after another
-abbrev pub joined : {X : Type 0} → List (List X) → List X
-joined = flat_map (λ page. page)
+abbrev pub joined_pages : {X : Type 0} → List (List X) → List X
+joined_pages = flat_map (λ page. page)
 
 -- each page has so many lines
 abbrev pub AreFull : {X : Type 0} → ℕ → List (List X) → Type 0

@@ -2,7 +2,7 @@
 
 ghost use Rattle.std.specs.Prelude.{◌≡◌, ◌+◌, ◌++◌, ◌∷◌, [], ◌*◌, ◌≤◌, ◌<◌, ◌^◌, drop, take, length, IfOk, OnOk, OnErr, slice_get, vec_capacity, vec_len};
 ghost use Rattle.std.specs.Option.{option_map};
-ghost use Rattle.pages.specs.Pages.{joined};
+ghost use Rattle.pages.specs.Pages.{joined_pages};
 
 use crate::copies::{are_first, copies, go_on};
 use crate::lines::Lines;
@@ -29,12 +29,12 @@ pub struct Log {
 impl Model for Log {
     ghost use Rattle.std.specs.Prelude.{◌++◌, List};
     ghost use Rattle.refutations.specs.Proofs.{ProofLine};
-    ghost use Rattle.pages.specs.Pages.{joined, IsPaged};
+    ghost use Rattle.pages.specs.Pages.{joined_pages, IsPaged};
     ghost use Rattle.pages.specs.declared.page.TheConstants.{LINES_PER_PAGE};
 
     ghost Value = { List ProofLine };
 
-    ghost view = { λ log. joined log.pages.items ++ log.last.items };
+    ghost view = { λ log. joined_pages log.pages.items ++ log.last.items };
 
     ghost invariant = { λ log. IsPaged LINES_PER_PAGE log.pages.items log.last.items };
 }
@@ -52,7 +52,7 @@ pub(crate) fn paged(alloc: Global, lines: Vec<Line>) -> Result<Log, AllocError>
 
 /// The lines of these pages, one after another, with room for so many.
 fn joined(alloc: Global, pages: Vec<Page>, count: usize) -> Result<Vec<Line>, AllocError>
-    ensures { IfOk result (λ lines. lines.items ≡ joined pages.items) }
+    ensures { IfOk result (λ lines. lines.items ≡ joined_pages pages.items) }
 {
     let mut lines = Vec::with_capacity(alloc, count)?;
     for page in pages {

@@ -9,12 +9,12 @@ use Rattle.phases.specs.Rests.{IsRest, behind}
 use Rattle.phase_checker.specs.declared.phase.Phase.{Phase}
 use Rattle.phase_checker.specs.declared.reason.NotJoined.{NotJoined}
 use Rattle.phase_checker.specs.declared.reason.NotJoined.TheVariants as joins
-use Rattle.phase_checker.specs.Dealing.{ComesTo, Dealt, IsAt, IsEarly, IsFirst, IsTaken, IsWrong, KeepsToItself}
+use Rattle.phase_checker.specs.Dealing.{ComesTo, Dealt, IsAt, IsEarly, IsPhaseInFront, IsPhaseTaken, IsWrongAtPlace, KeepsToItself}
 use Rattle.phase_checker.specs.parts.Parts.{IsDealtAt, IsFirstEarly, IsUnkept}
 
-dealt_more : (phases : List Phase) (number : ℕ) (p q rest : MpiProgram) (order : List ℕ) → Dealt phases p order q → IsTaken phases number q rest
+dealt_more : (phases : List Phase) (number : ℕ) (p q rest : MpiProgram) (order : List ℕ) → Dealt phases p order q → IsPhaseTaken phases number q rest
     → Dealt phases p (order ++ number ∷ []) rest
-dealt_more phases number p q rest [] e taken = (rest, subst (λ (z : MpiProgram). IsTaken phases number z rest) (sym e) taken, refl)
+dealt_more phases number p q rest [] e taken = (rest, subst (λ (z : MpiProgram). IsPhaseTaken phases number z rest) (sym e) taken, refl)
 dealt_more phases number p q rest (first ∷ order) d taken = (d.0, d.1, dealt_more phases number d.0 q rest order d.2 taken)
 
 -- a place of the order has one phase
@@ -57,7 +57,7 @@ module _ (phases : List Phase) (order next : List ℕ) (place : ℕ) (whole p q 
 
 -- a phase in front that others follow, and that doesn't keep to itself, is wrong at its place
 pub unkept_is_wrong : (phases : List Phase) (order : List ℕ) (place : ℕ) (q : MpiProgram) (phase : Phase) (why : NotJoined) → IsUnkept phases order place phase why
-    → place + 1 < length order → IsFirst phases order place q phase → IsWrong phases order place q why
+    → place + 1 < length order → IsPhaseInFront phases order place q phase → IsWrongAtPlace phases order place q why
 unkept_is_wrong phases order place q phase (joins.Source at) un more first = (un.0, phase, first, un.1)
 unkept_is_wrong phases order place q phase (joins.Uneven at) un more first = (un.0, more, phase, first, un.1, un.2)
 unkept_is_wrong phases order place q phase joins.Memory un more first = absurd un

@@ -10,13 +10,13 @@ use Rattle.phases.specs.Rests.{IsFront, behind}
 use Rattle.phase_checker.specs.declared.phase.Phase.{Phase}
 use Rattle.phase_checker.specs.declared.reason.NotJoined.{NotJoined}
 use Rattle.phase_checker.specs.declared.reason.NotJoined.TheVariants as joins
-use Rattle.phase_checker.specs.Dealing.{ComesTo, Dealt, IsAt, IsEarly, IsTaken, IsWrong}
-use Rattle.phase_checker.specs.Laws.{JoinedHaveNoFault, OneFault}
+use Rattle.phase_checker.specs.Dealing.{ComesTo, Dealt, IsAt, IsEarly, IsPhaseTaken, IsWrongAtPlace}
+use Rattle.phase_checker.specs.Laws.{JoinedHaveNoFault, OneJoinFault}
 use Rattle.phase_checker.proofs.Dealing.{one_phase}
 
 -- ---- what is left is one program
 
-one_taken : (phases : List Phase) (number : ℕ) (p q r : MpiProgram) → IsTaken phases number p q → IsTaken phases number p r → q ≡ r
+one_taken : (phases : List Phase) (number : ℕ) (p q r : MpiProgram) → IsPhaseTaken phases number p q → IsPhaseTaken phases number p r → q ≡ r
 one_taken phases number p q r x y =
     let same : x.phase ≡ y.phase = same_Some x.phase y.phase (sym x.there ∙ y.there) in
     x.left ∙ ap (λ (z : Phase). behind p z.program) same ∙ sym y.left
@@ -28,12 +28,12 @@ one_left phases (number ∷ order) p q r (rest, taken, d) (other, taken', e) =
 
 -- a phase that is dealt later on is in front of what is left at its place
 taken_at : (phases : List Phase) (order : List ℕ) (place other number : ℕ) (p q r : MpiProgram) → Dealt phases p (take place order) q → Dealt phases p (take other order) r
-    → place < other → slice_get order place ≡ Some number → (rest : MpiProgram) × IsTaken phases number q rest
+    → place < other → slice_get order place ≡ Some number → (rest : MpiProgram) × IsPhaseTaken phases number q rest
 taken_at phases [] place other number p q r d e before entry = absurd (omega (arith, slice_get_within [] place number entry))
 taken_at phases (first ∷ order) place zero number p q r d e before entry = absurd (omega (arith, before))
 taken_at phases (first ∷ order) zero (suc o) number p q r d (rest, taken, e) before entry =
     let same : first ≡ number = same_Some first number entry in
-    (rest, subst (λ (z : MpiProgram). IsTaken phases number z rest) d (subst (λ (z : ℕ). IsTaken phases z p rest) same taken))
+    (rest, subst (λ (z : MpiProgram). IsPhaseTaken phases number z rest) d (subst (λ (z : ℕ). IsPhaseTaken phases z p rest) same taken))
 taken_at phases (first ∷ order) (suc k) (suc o) number p q r (rest, taken, d) (other, taken', e) before entry =
     taken_at phases order k o number rest q r d (subst (λ (z : MpiProgram). Dealt phases z (take o order) r) (one_taken phases first p other rest taken' taken) e) (omega (arith, before)) entry
 
@@ -65,7 +65,7 @@ module _ (phases : List Phase) (order : List ℕ) (place : ℕ) (q : MpiProgram)
   Passes (suc (suc (suc zero))) = (phase : Phase) → IsAt phases order place phase → IsEarly phases order place phase → ⊥
   Passes (suc (suc (suc (suc n)))) = (phase : Phase) → IsAt phases order place phase → place + 1 < length order → LeavesNothing phase.program
 
-  is_told : (a : NotJoined) → IsWrong phases order place q a → a ≡ told (level a) place
+  is_told : (a : NotJoined) → IsWrongAtPlace phases order place q a → a ≡ told (level a) place
   is_told joins.Left w = refl
   is_told (joins.NoPhase at) w = ap joins.NoPhase w.0
   is_told (joins.Other at) w = ap joins.Other w.0
@@ -75,7 +75,7 @@ module _ (phases : List Phase) (order : List ℕ) (place : ℕ) (q : MpiProgram)
   is_told (joins.Read fault) w = absurd w
   is_told (joins.Resolve fault) w = absurd w
 
-  fails : (a : NotJoined) → IsWrong phases order place q a → Passes (level a) → ⊥
+  fails : (a : NotJoined) → IsWrongAtPlace phases order place q a → Passes (level a) → ⊥
   fails joins.Left (e, never) pass = omega (arith, e, pass)
   fails (joins.NoPhase at) (e, number, entry, none) (phase, is) =
       let same : is.number ≡ number = same_Some is.number number (sym is.entry ∙ entry) in
@@ -90,7 +90,7 @@ module _ (phases : List Phase) (order : List ℕ) (place : ℕ) (q : MpiProgram)
   at_inside : (phase : Phase) → IsAt phases order place phase → place < length order
   at_inside phase is = slice_get_within order place is.number is.entry
 
-  passes : (a : NotJoined) → IsWrong phases order place q a → (j : ℕ) → j < level a → Passes j
+  passes : (a : NotJoined) → IsWrongAtPlace phases order place q a → (j : ℕ) → j < level a → Passes j
   passes joins.Left w j low = absurd (omega (arith, low))
   passes (joins.NoPhase at) w zero low = slice_get_within order place w.1 w.2
   passes (joins.NoPhase at) w (suc j) low = absurd (omega (arith, low))
@@ -110,7 +110,7 @@ module _ (phases : List Phase) (order : List ℕ) (place : ℕ) (q : MpiProgram)
   passes (joins.Read fault) w j low = absurd w
   passes (joins.Resolve fault) w j low = absurd w
 
-  one_wrong : (a b : NotJoined) → IsWrong phases order place q a → IsWrong phases order place q b → a ≡ b
+  one_wrong : (a b : NotJoined) → IsWrongAtPlace phases order place q a → IsWrongAtPlace phases order place q b → a ≡ b
   one_wrong a b x y = elim (cases_lt (level a) (level b)) [
     | inl low ↦ absurd (fails a x (passes b y (level a) low))
     | inr high ↦ elim (cases_lt (level b) (level a)) [
@@ -119,7 +119,7 @@ module _ (phases : List Phase) (order : List ℕ) (place : ℕ) (q : MpiProgram)
     ]
   ]
 
-  within : (a : NotJoined) → IsWrong phases order place q a → place ≤ length order
+  within : (a : NotJoined) → IsWrongAtPlace phases order place q a → place ≤ length order
   within joins.Left w = omega (arith, w.0)
   within (joins.NoPhase at) w = let inside = slice_get_within order place w.1 w.2 in omega (arith, inside)
   within (joins.Other at) w = let inside = at_inside w.1 w.2 in omega (arith, inside)
@@ -130,7 +130,7 @@ module _ (phases : List Phase) (order : List ℕ) (place : ℕ) (q : MpiProgram)
   within (joins.Resolve fault) w = absurd w
 
   -- behind the last place nothing is wrong but that calls are left
-  at_end : (a : NotJoined) → IsWrong phases order place q a → length order ≤ place → q.calls ≡ [] → ⊥
+  at_end : (a : NotJoined) → IsWrongAtPlace phases order place q a → length order ≤ place → q.calls ≡ [] → ⊥
   at_end joins.Left w past none = w.1 none
   at_end (joins.NoPhase at) w past none = let inside = slice_get_within order place w.1 w.2 in omega (arith, inside, past)
   at_end (joins.Other at) w past none = let inside = at_inside w.1 w.2 in omega (arith, inside, past)
@@ -156,7 +156,7 @@ module _ (phases : List Phase) (order : List ℕ) (place : ℕ) (q : MpiProgram)
         (later.keep place phase before (omega (arith, more, early.behind)) is).late early
     later_passes (suc (suc (suc (suc j)))) = λ phase is more. (later.keep place phase before more is).even
 
-    pub no_earlier : (a : NotJoined) → IsWrong phases order place q a → ⊥
+    pub no_earlier : (a : NotJoined) → IsWrongAtPlace phases order place q a → ⊥
     no_earlier a w = fails a w (later_passes (level a))
 
 -- ---- texts
@@ -175,7 +175,7 @@ joined_have_no_fault text phases order why joined fault =
           at_end phases order fault.place fault.q why fault.wrong past (ap (λ (z : MpiProgram). z.calls) (sym left) ∙ joined.nothing)
     ]
 
-pub one_fault : OneFault
+pub one_fault : OneJoinFault
 one_fault text phases order a b x y =
     let same : y.p ≡ x.p = one_program_of_bytes_within long text y.p x.p y.is_text x.is_text in
     let other : ComesTo phases order y.place x.p y.q = subst (λ (z : MpiProgram). ComesTo phases order y.place z y.q) same y.before in
@@ -187,7 +187,7 @@ one_fault text phases order a b x y =
             let e : y.place ≡ x.place = omega (arith, from, back) in
             let here : ComesTo phases order x.place x.p y.q = subst (λ (z : ℕ). ComesTo phases order z x.p y.q) e other in
             let left : y.q ≡ x.q = one_left phases (take x.place order) x.p y.q x.q here.dealt x.before.dealt in
-            let wrong : IsWrong phases order x.place y.q b = subst (λ (z : ℕ). IsWrong phases order z y.q b) e y.wrong in
-            one_wrong phases order x.place x.q a b x.wrong (subst (λ (z : MpiProgram). IsWrong phases order x.place z b) left wrong)
+            let wrong : IsWrongAtPlace phases order x.place y.q b = subst (λ (z : ℕ). IsWrongAtPlace phases order z y.q b) e y.wrong in
+            one_wrong phases order x.place x.q a b x.wrong (subst (λ (z : MpiProgram). IsWrongAtPlace phases order x.place z b) left wrong)
       ]
     ]

@@ -8,9 +8,9 @@ use Rattle.sealing.specs.declared.loose.Loose.{Loose}
 use Rattle.phase_checker.specs.declared.phase.Phase.{Phase}
 use Rattle.phase_checker.specs.declared.senders.Senders.{Senders}
 use Rattle.phase_checker.specs.Dealing.{IsAt, IsEarly}
-use Rattle.phase_checker.specs.parts.Early.{AreEmpty, AreEnds, AreReaches, AreSenders, IsFirstWithin}
+use Rattle.phase_checker.specs.parts.Early.{AreEmpty, AreLooseEnds, AreReachesOfLists, AreSenders, IsFirstWithin}
 use Rattle.phase_checker.specs.parts.Parts.{IsFirstEarly}
-use Rattle.phase_checker.specs.parts.Senders.{place_of}
+use Rattle.phase_checker.specs.parts.Senders.{place_sent}
 use Rattle.phase_checker.proofs.Sent.{loose_is_sent, sent_is_loose}
 
 -- what stands in a list stands in each one that is there in its place
@@ -24,7 +24,7 @@ at_within xs i within = elim ((slice_get_cases xs i).1) [
   | inr (past, none) ↦ absurd (omega (arith, within, past))
 ]
 
-module _ (phases : List Phase) (order : List ℕ) (ends : List (Vec Loose)) (are_ends : AreEnds phases order ends) where
+module _ (phases : List Phase) (order : List ℕ) (ends : List (Vec Loose)) (are_ends : AreLooseEnds phases order ends) where
   -- what stands for a send that comes too early
   entry_of : (place : ℕ) (phase : Phase) (is : IsAt phases order place phase) (early : IsEarly phases order place phase)
       → (list : Vec Loose) × (slice_get ends is.number ≡ Some list) × (index : ℕ) × (slice_get list.items index ≡ Some early.entry)
@@ -40,7 +40,7 @@ module _ (phases : List Phase) (order : List ℕ) (ends : List (Vec Loose)) (are
       let inside = slice_get_within at.0.items at.2 early.entry at.3 in
       omega (arith, inside, ap length (none is.number at.0 at.1))
 
-  module _ (senders : Senders) (reaches : List ℕ) (are_senders : AreSenders phases order senders) (are_reaches : AreReaches senders ends reaches) where
+  module _ (senders : Senders) (reaches : List ℕ) (are_senders : AreSenders phases order senders) (are_reaches : AreReachesOfLists senders ends reaches) where
     -- a place for whose phase a later one may send too early is before its reach
     early_is_within : (place : ℕ) (phase : Phase) (is : IsAt phases order place phase) → IsEarly phases order place phase → place < get_or reaches is.number 0
     early_is_within place phase is early =
@@ -62,7 +62,7 @@ module _ (phases : List Phase) (order : List ℕ) (ends : List (Vec Loose)) (are
             let list = at_within ends number (omega (arith, slice_get_within phases number phase there, are_ends.size)) in
             let reach = (are_reaches.each number list.0 list.1).reached (omega (arith, within)) in
             let sent = are_senders.sent reach.1 (omega (arith, within, reach.3)) in
-            let behind = slice_get_within order (place_of senders reach.1) sent.1.number sent.1.entry in
+            let behind = slice_get_within order (place_sent senders reach.1) sent.1.number sent.1.entry in
             let own = are_ends.each place number phase (omega (arith, behind, within, reach.3)) entry there in
             let stands = in_own ends number reach.0 list.0 own.0 reach.1 list.1 own.1 reach.2 in (
               phase,
@@ -70,7 +70,7 @@ module _ (phases : List Phase) (order : List ℕ) (ends : List (Vec Loose)) (are
               record {
                 entry = reach.1;
                 loose = (own.2 reach.1).0 (reach.0, stands);
-                later = place_of senders reach.1;
+                later = place_sent senders reach.1;
                 behind = omega (arith, within, reach.3);
                 other = sent.0;
                 is = sent.1;

@@ -7,38 +7,38 @@ use Rattle.std.proofs.lemmas.List.{get_or_append_left}
 use Rattle.std.proofs.lemmas.Option.{same_Some, slice_get_read, slice_get_within}
 use Rattle.sealing.specs.declared.loose.Loose.{Loose}
 use Rattle.phase_checker.specs.declared.senders.Senders.{Senders}
-use Rattle.phase_checker.specs.parts.Early.{AreReaches, IsReach}
-use Rattle.phase_checker.specs.parts.Senders.{place_of}
+use Rattle.phase_checker.specs.parts.Early.{AreReachesOfLists, IsReachOfList}
+use Rattle.phase_checker.specs.parts.Senders.{place_sent}
 
 -- the last place at which something of the list before this index is sent, or 0
 pub record IsReachTo (senders : Senders) (list : List Loose) (reach index : ℕ) : Type 0 where
-  pub reached : 0 < reach → (place : ℕ) × (entry : Loose) × (slice_get list place ≡ Some entry) × (place_of senders entry ≡ reach)
-  pub past : (place : ℕ) (entry : Loose) → place < index → slice_get list place ≡ Some entry → place_of senders entry ≤ reach
+  pub reached : 0 < reach → (place : ℕ) × (entry : Loose) × (slice_get list place ≡ Some entry) × (place_sent senders entry ≡ reach)
+  pub past : (place : ℕ) (entry : Loose) → place < index → slice_get list place ≡ Some entry → place_sent senders entry ≤ reach
 
 -- the reach of each list before this number
 pub record AreReachesTo (senders : Senders) (ends : List (Vec Loose)) (reaches : List ℕ) (count : ℕ) : Type 0 where
   pub size : length reaches ≡ count
-  pub each : (number : ℕ) (list : Vec Loose) → number < count → slice_get ends number ≡ Some list → IsReach senders list.items (get_or reaches number 0)
+  pub each : (number : ℕ) (list : Vec Loose) → number < count → slice_get ends number ≡ Some list → IsReachOfList senders list.items (get_or reaches number 0)
 
 pub reaches_more : (senders : Senders) (ends : List (Vec Loose)) (reaches : List ℕ) (count reach : ℕ) (item : Vec Loose) → AreReachesTo senders ends reaches count
-    → count < length ends → item ≡ get_or ends count item → IsReach senders item.items reach → AreReachesTo senders ends (reaches ++ reach ∷ []) (count + 1)
+    → count < length ends → item ≡ get_or ends count item → IsReachOfList senders item.items reach → AreReachesTo senders ends (reaches ++ reach ∷ []) (count + 1)
 reaches_more senders ends reaches count reach item so_far within is reaches_it = record {
   size = omega (arith, length-append reaches (reach ∷ []), so_far.size);
   each = λ number list low there. elim (cases_lt number count) [
     | inl before ↦
         let same = get_or_append_left reaches (reach ∷ []) 0 number (omega (arith, before, so_far.size)) in
-        subst (IsReach senders list.items) (sym same) (so_far.each number list before there)
+        subst (IsReachOfList senders list.items) (sym same) (so_far.each number list before there)
     | inr from ↦
         let e : number ≡ length reaches = omega (arith, low, from, so_far.size) in
         let last = ap (λ (z : ℕ). get_or (reaches ++ reach ∷ []) z 0) e ∙ get_or-append_seam reaches reach [] 0 in
         let here = slice_get_read ends (length ends) count item refl within is in
         let same : item ≡ list = same_Some item list (sym here ∙ ap (slice_get ends) (sym so_far.size ∙ sym e) ∙ there) in
-        subst (IsReach senders list.items) (sym last) (subst (λ (z : Vec Loose). IsReach senders z.items reach) same reaches_it)
+        subst (IsReachOfList senders list.items) (sym last) (subst (λ (z : Vec Loose). IsReachOfList senders z.items reach) same reaches_it)
   ];
 }
 
 pub reaches_done : (senders : Senders) (ends : List (Vec Loose)) (reaches : List ℕ) (count : ℕ) → AreReachesTo senders ends reaches count → count ≡ length ends
-    → AreReaches senders ends reaches
+    → AreReachesOfLists senders ends reaches
 reaches_done senders ends reaches count so_far all = record {
   size = so_far.size ∙ all;
   each = λ number list there. so_far.each number list (omega (arith, all, slice_get_within ends number list there)) there;

@@ -10,8 +10,8 @@ use Rattle.sealing.specs.declared.loose.Loose.{Loose}
 use Rattle.sealing.specs.Loose.{AreLoose}
 use Rattle.phase_checker.specs.declared.phase.Phase.{Phase}
 use Rattle.phase_checker.specs.declared.senders.Senders.{Senders}
-use Rattle.phase_checker.specs.parts.Senders.{is_sent, place_of, IsRaised}
-use Rattle.phase_checker.specs.parts.Early.{AreEnds, AreLast, AreSenders}
+use Rattle.phase_checker.specs.parts.Senders.{is_sent, place_sent, IsRaisedToPlace}
+use Rattle.phase_checker.specs.parts.Early.{AreLooseEnds, AreLast, AreSenders}
 
 -- ---- last places
 
@@ -101,7 +101,7 @@ module _ (phases : List Phase) (followed : List (Option ℕ)) (ends : List (Vec 
     ];
   }
 
-  pub ends_done : (order earlier : List ℕ) → earlier ≡ take (length order - 1) order → AreLast (length phases) earlier followed → count ≡ length phases → AreEnds phases order ends
+  pub ends_done : (order earlier : List ℕ) → earlier ≡ take (length order - 1) order → AreLast (length phases) earlier followed → count ≡ length phases → AreLooseEnds phases order ends
   ends_done order earlier cut last all = record {
     size = so_far.size ∙ all;
     each = λ place number phase more entry there.
@@ -130,9 +130,9 @@ IsSentLast phases last key place = (number : ℕ) × (phase : Phase) × (slice_g
 
 -- what the phases before this number send, and how late
 pub record IsSendersTo (phases : List Phase) (last : List (Option ℕ)) (senders : Senders) (count : ℕ) : Type 0 where
-  pub sent : (key : Loose) → 0 < place_of senders key → IsSentLast phases last key (place_of senders key)
+  pub sent : (key : Loose) → 0 < place_sent senders key → IsSentLast phases last key (place_sent senders key)
   pub past : (key : Loose) (number place : ℕ) (phase : Phase) → number < count → slice_get phases number ≡ Some phase → get_or last number None ≡ Some place → Sends key phase
-      → place ≤ place_of senders key
+      → place ≤ place_sent senders key
 
 -- The entry of a key when a phase is put at a place, which sends what the key stands for where the
 -- test says so: it is the place or the old entry, and no less than either.
@@ -148,21 +148,21 @@ entry_is old place new false is = (inr is, omega (arith, is), λ on. absurd (cc)
 
 module _ (phases : List Phase) (last : List (Option ℕ)) (senders : Senders) (count : ℕ) (so_far : IsSendersTo phases last senders count) where
   module _ (phase : Phase) (here : slice_get phases count ≡ Some phase) where
-    module _ (more : Senders) (place : ℕ) (at : get_or last count None ≡ Some place) (raised : IsRaised (λ key. list_any (is_sent key) phase.program.calls) place senders more) where
-      entry : (key : Loose) → IsEntry (place_of senders key) place (place_of more key) (list_any (is_sent key) phase.program.calls)
-      entry key = entry_is (place_of senders key) place (place_of more key) (list_any (is_sent key) phase.program.calls) (raised key)
+    module _ (more : Senders) (place : ℕ) (at : get_or last count None ≡ Some place) (raised : IsRaisedToPlace (λ key. list_any (is_sent key) phase.program.calls) place senders more) where
+      entry : (key : Loose) → IsEntry (place_sent senders key) place (place_sent more key) (list_any (is_sent key) phase.program.calls)
+      entry key = entry_is (place_sent senders key) place (place_sent more key) (list_any (is_sent key) phase.program.calls) (raised key)
 
       pub senders_more : IsSendersTo phases last more (count + 1)
       senders_more = record { sent = sent; past = past }
         where
-          sent : (key : Loose) → 0 < place_of more key → IsSentLast phases last key (place_of more key)
+          sent : (key : Loose) → 0 < place_sent more key → IsSentLast phases last key (place_sent more key)
           sent key some = elim ((entry key).0) [
             | inl (sends, is) ↦ (count, phase, here, at ∙ ap (λ (z : ℕ). Some z) (sym is), sends)
             | inr is ↦ subst (IsSentLast phases last key) (sym is) (so_far.sent key (omega (arith, some, is)))
           ]
 
           past : (key : Loose) (number place' : ℕ) (other : Phase) → number < count + 1 → slice_get phases number ≡ Some other → get_or last number None ≡ Some place' → Sends key other
-              → place' ≤ place_of more key
+              → place' ≤ place_sent more key
           past key number place' other low there is sends = elim (cases_lt number count) [
             | inl before ↦ omega (arith, (entry key).1, so_far.past key number place' other before there is sends)
             | inr from ↦
@@ -189,7 +189,7 @@ module _ (phases : List Phase) (last : List (Option ℕ)) (senders : Senders) (c
   senders_done order are all = record {
     sent = λ key some.
         let old = so_far.sent key some in
-        (old.1, record { number = old.0; entry = are.stands old.0 (place_of senders key) old.3; there = old.2 }, old.4);
+        (old.1, record { number = old.0; entry = are.stands old.0 (place_sent senders key) old.3; there = old.2 }, old.4);
     past = λ key place phase is sends.
         let within = slice_get_within phases is.number phase is.there in
         let at = are.past place is.number is.entry within in

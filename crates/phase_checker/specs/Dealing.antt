@@ -16,7 +16,7 @@ use Rattle.phase_checker.specs.declared.reason.NotJoined.TheVariants as joins
 -- ---- phases that are dealt
 
 -- The phase of this number is in front of the first program, and the second is left behind it.
-pub record IsTaken (phases : List Phase) (number : ℕ) (p q : MpiProgram) : Type 0 where
+pub record IsPhaseTaken (phases : List Phase) (number : ℕ) (p q : MpiProgram) : Type 0 where
   pub phase : Phase
   pub there : slice_get phases number ≡ Some phase
   pub front : IsFront p phase.program
@@ -26,7 +26,7 @@ pub record IsTaken (phases : List Phase) (number : ℕ) (p q : MpiProgram) : Typ
 -- leave, and the second program is what all leave.
 abbrev pub Dealt : List Phase → MpiProgram → List ℕ → MpiProgram → Type 0
 Dealt phases p [] q = p ≡ q
-Dealt phases p (number ∷ order) q = (rest : MpiProgram) × IsTaken phases number p rest × Dealt phases rest order q
+Dealt phases p (number ∷ order) q = (rest : MpiProgram) × IsPhaseTaken phases number p rest × Dealt phases rest order q
 
 -- this phase is the one at the place of the order
 pub record IsAt (phases : List Phase) (order : List ℕ) (place : ℕ) (phase : Phase) : Type 0 where
@@ -70,30 +70,30 @@ pub record AreJoined (text : List ℕ) (phases : List Phase) (order : List ℕ) 
   pub nothing : left.calls ≡ []
 
 -- the phase at this place of the order is in front of the program
-pub record IsFirst (phases : List Phase) (order : List ℕ) (place : ℕ) (q : MpiProgram) (phase : Phase) : Type 0 where
+pub record IsPhaseInFront (phases : List Phase) (order : List ℕ) (place : ℕ) (q : MpiProgram) (phase : Phase) : Type 0 where
   pub is : IsAt phases order place phase
   pub front : IsFront q phase.program
 
 -- What is wrong at a place of the order, where this is left of the program: no phase has the
 -- number; the phase isn't in front; it is, but a later one may send too early for it; none may, but
 -- others follow, and it leaves something. And behind the last place: calls are left.
-abbrev pub IsWrong : List Phase → List ℕ → ℕ → MpiProgram → NotJoined → Type 0
-IsWrong phases order place q (joins.NoPhase at) = (at ≡ place) × (number : ℕ) × (slice_get order place ≡ Some number) × (slice_get phases number ≡ None)
-IsWrong phases order place q (joins.Other at) = (at ≡ place) × (phase : Phase) × IsAt phases order place phase × (IsFront q phase.program → ⊥)
-IsWrong phases order place q (joins.Source at) = (at ≡ place) × (phase : Phase) × IsFirst phases order place q phase × IsEarly phases order place phase
-IsWrong phases order place q (joins.Uneven at) = (at ≡ place) × (place + 1 < length order) × (phase : Phase) × IsFirst phases order place q phase × (IsEarly phases order place phase → ⊥) × (LeavesNothing phase.program → ⊥)
-IsWrong phases order place q joins.Left = (place ≡ length order) × (q.calls ≡ [] → ⊥)
-IsWrong phases order place q why = ⊥
+abbrev pub IsWrongAtPlace : List Phase → List ℕ → ℕ → MpiProgram → NotJoined → Type 0
+IsWrongAtPlace phases order place q (joins.NoPhase at) = (at ≡ place) × (number : ℕ) × (slice_get order place ≡ Some number) × (slice_get phases number ≡ None)
+IsWrongAtPlace phases order place q (joins.Other at) = (at ≡ place) × (phase : Phase) × IsAt phases order place phase × (IsFront q phase.program → ⊥)
+IsWrongAtPlace phases order place q (joins.Source at) = (at ≡ place) × (phase : Phase) × IsPhaseInFront phases order place q phase × IsEarly phases order place phase
+IsWrongAtPlace phases order place q (joins.Uneven at) = (at ≡ place) × (place + 1 < length order) × (phase : Phase) × IsPhaseInFront phases order place q phase × (IsEarly phases order place phase → ⊥) × (LeavesNothing phase.program → ⊥)
+IsWrongAtPlace phases order place q joins.Left = (place ≡ length order) × (q.calls ≡ [] → ⊥)
+IsWrongAtPlace phases order place q why = ⊥
 
 -- The bytes are the text of a program, within the long limits; the phases before some place of the
 -- order are dealt, as they have to be, and this is wrong there.
-pub record HasFault (text : List ℕ) (phases : List Phase) (order : List ℕ) (why : NotJoined) : Type 0 where
+pub record HasJoinFault (text : List ℕ) (phases : List Phase) (order : List ℕ) (why : NotJoined) : Type 0 where
   pub p : MpiProgram
   pub q : MpiProgram
   pub place : ℕ
   pub is_text : IsTextOfWithin long text p
   pub before : ComesTo phases order place p q
-  pub wrong : IsWrong phases order place q why
+  pub wrong : IsWrongAtPlace phases order place q why
 
 -- Why phases don't show that no run of a text's program gets stuck: it is none of a program; or
 -- the first thing that is wrong. Want of memory may be told of any.
@@ -101,4 +101,4 @@ abbrev pub IsNotJoined : List ℕ → List Phase → List ℕ → NotJoined → 
 IsNotJoined text phases order joins.Memory = Unit {0}
 IsNotJoined text phases order (joins.Read fault) = IsUndecided text (undecided.Read fault)
 IsNotJoined text phases order (joins.Resolve fault) = IsUndecided text (undecided.Resolve fault)
-IsNotJoined text phases order why = HasFault text phases order why
+IsNotJoined text phases order why = HasJoinFault text phases order why

@@ -2,7 +2,7 @@
 
 ghost use Rattle.std.specs.Prelude.{◌≡◌, ◌↔◌, ◌<◌, [], IfOk, IfSome, IsTrue, get_or};
 ghost use Rattle.sealing.specs.Loose.{AreLoose};
-ghost use Rattle.phase_checker.specs.parts.Early.{AreEmpty, AreEnds, AreLast, AreReaches, AreSenders, IsFirstWithin, IsReach};
+ghost use Rattle.phase_checker.specs.parts.Early.{AreEmpty, AreLooseEnds, AreLast, AreReachesOfLists, AreSenders, IsFirstWithin, IsReachOfList};
 ghost use Rattle.phase_checker.specs.parts.Parts.{IsFirstEarly};
 
 use crate::phase::Phase;
@@ -40,7 +40,7 @@ fn ends_at(alloc: Global, phase: &Phase, followed: Option<usize>) -> Result<Vec<
 
 /// What could be sent too early to each phase that others follow.
 fn ends_of(alloc: Global, phases: &[Phase], order: &[usize]) -> Result<Vec<Vec<Loose>>, AllocError>
-    ensures { IfOk result (λ ends. AreEnds phases.now order.now ends.items) }
+    ensures { IfOk result (λ ends. AreLooseEnds phases.now order.now ends.items) }
 {
     let followed = last_places(alloc, phases.len(), &order[..order.len().saturating_sub(1)])?;
     let mut ends = Vec::new(alloc);
@@ -66,7 +66,7 @@ fn senders_of(alloc: Global, phases: &[Phase], order: &[usize]) -> Result<Sender
 
 /// The last place at which something of this is sent, or 0.
 fn reach(senders: &Senders, list: &[Loose]) -> usize
-    ensures { IsReach senders.now list.now result }
+    ensures { IsReachOfList senders.now list.now result }
 {
     let mut reach = 0;
     for entry in list {
@@ -84,7 +84,7 @@ fn reaches_of(
     senders: &Senders,
     ends: &[Vec<Loose>],
 ) -> Result<Vec<usize>, AllocError>
-    ensures { IfOk result (λ reaches. AreReaches senders.now ends.now reaches.items) }
+    ensures { IfOk result (λ reaches. AreReachesOfLists senders.now ends.now reaches.items) }
 {
     let mut reaches = Vec::new(alloc);
     for list in ends {

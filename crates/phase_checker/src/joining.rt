@@ -5,7 +5,7 @@ ghost use Rattle.calltext.specs.Limits.{long};
 ghost use Rattle.callorder.specs.Programs.{MpiProgram};
 ghost use Rattle.semantics.specs.Headline.{IsNeverStuckWithin};
 ghost use Rattle.phases.specs.Rests.{IsRest};
-ghost use Rattle.phase_checker.specs.Dealing.{AreJoined, IsNotJoined, IsWrong, KeepsToItself};
+ghost use Rattle.phase_checker.specs.Dealing.{AreJoined, IsNotJoined, IsWrongAtPlace, KeepsToItself};
 ghost use Rattle.phase_checker.specs.parts.Early.{HoldsAt};
 ghost use Rattle.phase_checker.specs.parts.Parts.{IsDealtAt, IsFirstEarly, IsFirstWrong, IsUnkept, MakeUp};
 
@@ -49,7 +49,7 @@ fn deal_at(
     requires places { length next.old ≡ program.now.ranks }
     ensures dealt { IfOk result (λ done. (q : MpiProgram) → IsRest program.now next.old q →
         IsDealtAt phases.now order.now place program.now q next.new) }
-    ensures why { IfErr result (λ why. (q : MpiProgram) → IsRest program.now next.old q → IsWrong phases.now order.now place q why) }
+    ensures why { IfErr result (λ why. (q : MpiProgram) → IsRest program.now next.old q → IsWrongAtPlace phases.now order.now place q why) }
 {
     let Some(phase) = phases.get(order[place]) else {
         return Err(NotJoined::NoPhase { place });

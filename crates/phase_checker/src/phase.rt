@@ -39,7 +39,7 @@ impl Phase {
     ghost use Rattle.phases.specs.Rests.{IsFront, IsRest, behind};
     ghost use Rattle.sealing.specs.Loose.{AreLoose};
     ghost use Rattle.checker.specs.Headline.{IsNeverStuck};
-    ghost use Rattle.checker.specs.Verdicts.{Judges, Refutes};
+    ghost use Rattle.checker.specs.Verdicts.{Judges, RefutesProgram};
     ghost use Rattle.phase_checker.specs.Reasons.{IsNoPhase};
 
     /// The phase that this program is. The only error is want of memory.
@@ -107,7 +107,7 @@ impl Phase {
         requires some { 0 < pieces }
         requires few { pieces ≤ 64 }
         ensures phase { IfOk result (λ phase. IsTextOfWithin long text.now phase.program) }
-        ensures refuted { IfOk result (λ phase. Refutes text.now evidence.now) }
+        ensures refuted { IfOk result (λ phase. RefutesProgram text.now evidence.now) }
         ensures other { IfErr result (λ verdict. verdict ≢ Verdict.NoDeadlock) }
         ensures judges { IfErr result (Judges text.now evidence.now) }
     {

@@ -2,7 +2,7 @@
 
 ghost use Rattle.std.specs.Prelude.{◌≡◌, OnOk};
 ghost use Rattle.std.specs.List.{list_any};
-ghost use Rattle.phase_checker.specs.parts.Senders.{is_same, is_sent, place_of, IsRaised};
+ghost use Rattle.phase_checker.specs.parts.Senders.{is_same, is_sent, place_sent, IsRaisedToPlace};
 ghost use Rattle.sealing.specs.declared.loose.Loose.{Loose};
 
 use callorder::Call;
@@ -20,7 +20,7 @@ pub struct Senders {
 impl Senders {
     /// Nothing is sent.
     pub fn new(alloc: Global) -> Senders
-        ensures { (key : Loose) → place_of result key ≡ 0 }
+        ensures { (key : Loose) → place_sent result key ≡ 0 }
     {
         Senders {
             places: HashMap::new(alloc),
@@ -29,14 +29,14 @@ impl Senders {
 
     /// The last place, but for 0, at which what the key stands for is sent; 0 where there is none.
     pub fn place(&self, key: &Loose) -> usize
-        ensures { result ≡ place_of self.now key.now }
+        ensures { result ≡ place_sent self.now key.now }
     {
         self.places.get(key).copied().unwrap_or(0)
     }
 
     /// What the key stands for is sent at the place too.
     fn put(&mut self, key: Loose, place: usize) -> Result<(), AllocError>
-        ensures { OnOk result (IsRaised (is_same key) place self.old self.new) }
+        ensures { OnOk result (IsRaisedToPlace (is_same key) place self.old self.new) }
     {
         if place <= self.place(&key) {
             return Ok(());
@@ -47,7 +47,7 @@ impl Senders {
 
     /// The call is made at the place too: it may be found by whoever names its tag, or none.
     fn put_call(&mut self, call: &Call, place: usize) -> Result<(), AllocError>
-        ensures { OnOk result (IsRaised (λ key. is_sent key call.now) place self.old self.new) }
+        ensures { OnOk result (IsRaisedToPlace (λ key. is_sent key call.now) place self.old self.new) }
     {
         let Some(message) = call.kind.message() else {
             return Ok(());
@@ -70,7 +70,7 @@ impl Senders {
 
     /// The calls are made at the place too. The only error is want of memory.
     pub fn put_calls(&mut self, calls: &[Call], place: usize) -> Result<(), AllocError>
-        ensures { OnOk result (IsRaised (λ key. list_any (is_sent key) calls.now) place self.old self.new) }
+        ensures { OnOk result (IsRaisedToPlace (λ key. list_any (is_sent key) calls.now) place self.old self.new) }
     {
         for call in calls {
             self.put_call(call, place)?;

@@ -17,7 +17,7 @@ use Rattle.semantics.proofs.Runs.{after_all-push, IsRun-push}
 use Rattle.semantics.specs.Headline.{NoStuckRun}
 use Rattle.races.specs.Races.{names_source}
 use Rattle.phases.specs.CallPlaces.{IsPart, IsFrom, IsWellFormed, moved_kind, moved_call}
-use Rattle.phases.specs.Cuts.{Cut, IsCut, IsClean, StayInParts, StaysInPart, AreOfOnePart}
+use Rattle.phases.specs.Cuts.{Cut, IsCutInTwo, IsClean, StayInParts, StaysInPart, AreOfOnePart}
 use Rattle.phases.specs.Conditions.{IsBalanced, HasFinder, IsOfOnlySender, ComesAfter, is_send_to, is_taker_at, goes_to}
 use Rattle.phases.specs.Order.{IsFinder, Needs}
 use Rattle.phases.specs.Laws.{BalancedIsClean, NamedIsTimely}
@@ -93,7 +93,7 @@ issued_below p m c call there issued = ltb-true c (slice_index m.next call.rank)
 pub both_ways : (t : Bool) → t ≡ true → t ≡ false → ⊥
 both_ways t on off = cc
 
-module _ (p : MpiProgram) (x : Cut) (whole : IsWellFormed p) (one : IsWellFormed x.first) (two : IsWellFormed x.second) (cut : IsCut p x) where
+module _ (p : MpiProgram) (x : Cut) (whole : IsWellFormed p) (one : IsWellFormed x.first) (two : IsWellFormed x.second) (cut : IsCutInTwo p x) where
   -- where the call of a part stands in the whole
   pub at_first : (k : ℕ) → (w : IsFrom x.first x.moved_first k) → call_at p k ≡ Some (moved_call (x.moved_first w.call.rank) w.call)
   at_first k w = ap (call_at p) w.is ∙ cut.first.calls w.place w.call w.there
@@ -239,7 +239,7 @@ module _ (p : MpiProgram) (x : Cut) (whole : IsWellFormed p) (one : IsWellFormed
         all_stay (opening p) (opening x.first) (opening x.second) (reached_opening p) (reached_opening x.first) (opening_both p x one two cut) steps run
 
 -- in the opening configuration of the first part a rank with calls has a next one
-pub opening_below : (p : MpiProgram) (x : Cut) → IsCut p x → IsWellFormed x.first → HasNextBelow x.first (opening x.first)
+pub opening_below : (p : MpiProgram) (x : Cut) → IsCutInTwo p x → IsWellFormed x.first → HasNextBelow x.first (opening x.first)
 opening_below p x cut one r c range own low =
     let next : slice_index (opening x.first).next r ≡ first_call x.first r = get_or-map-range_with_len (first_call x.first) 0 x.first.ranks r r 0 range (omega arith) in
     by next (is_of_rank (call_at x.first (first_call x.first r)) r) refl
@@ -265,7 +265,7 @@ named_source o pattern is names None e = absurd (both_ways true refl (sym names 
 named_source o pattern is names (Some v) e = (v, refl)
 
 -- a send that fits a finder which names its source is of the only rank whose sends fit it
-pub named_is_only : (p : MpiProgram) (x : Cut) → IsCut p x → (s f : ℕ) → (wf : IsFrom x.first x.moved_first f) → are_fit p s f ≡ true
+pub named_is_only : (p : MpiProgram) (x : Cut) → IsCutInTwo p x → (s f : ℕ) → (wf : IsFrom x.first x.moved_first f) → are_fit p s f ≡ true
     → names_source (pattern_of wf.call.kind) ≡ true → IsOfOnlySender p x.first x.moved_first s f
 named_is_only p x cut s f wf fit names e we fits_e call other at_e at_s = only
   where

@@ -8,8 +8,8 @@ use Rattle.callorder.specs.declared.calls.Call.{Call}
 use Rattle.callorder.specs.Programs.{MpiProgram, call_at, is_of_rank}
 use Rattle.semantics.specs.Machine.{first_call}
 use Rattle.phases.specs.CallPlaces.{IsFrom, IsWellFormed}
-use Rattle.phases.specs.Cuts.{Cut, IsCut}
-use Rattle.phases.specs.Joining.{IsJoined, cut_between}
+use Rattle.phases.specs.Cuts.{Cut, IsCutInTwo}
+use Rattle.phases.specs.Joining.{IsJoinOf, cut_between}
 use Rattle.phases.specs.Laws.{JoinedIsCut}
 use Rattle.phases.proofs.Parts.{of_rank, rank_is}
 use Rattle.phases.proofs.Clean.{both_ways}
@@ -107,7 +107,7 @@ module _ (p : MpiProgram) (is : InOrder p) where
         | inr fine ↦ omega (arith, fine, ordered_firsts r)
       ]
 
-module _ (p first second : MpiProgram) (whole : InOrder p) (one : IsWellFormed first) (two : IsWellFormed second) (joined : IsJoined p first second) where
+module _ (p first second : MpiProgram) (whole : InOrder p) (one : IsWellFormed first) (two : IsWellFormed second) (joined : IsJoinOf p first second) where
   abbrev x : Cut
   x = cut_between first second
 
@@ -146,7 +146,7 @@ module _ (p first second : MpiProgram) (whole : InOrder p) (one : IsWellFormed f
               let y = of_rank (call_at second k.0) r (of_next second two.rank_order r k.0 (omega (arith, high, k.1)) (omega (arith, upto, k.1, joined.sizes (r + 1))) (call_at second k.0) refl) in
               record { place = k.0; call = y.0; there = y.1; is = k.1 ∙ ap (λ (z : ℕ). k.0 + first_call first (z + 1)) (sym y.2) }
 
-  pub is_cut : IsCut p (cut_between first second)
+  pub is_cut : IsCutInTwo p (cut_between first second)
   is_cut =
       record {
         first = record { policy = joined.policy_first; ranks = joined.ranks_first; calls = joined.firsts };

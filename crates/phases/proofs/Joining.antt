@@ -16,8 +16,8 @@ use Rattle.callorder.specs.ProgramRules.{HasRanksBelow, IsPairing}
 use Rattle.callorder.specs.Programs.{MpiProgram, call_at}
 use Rattle.semantics.specs.Machine.{first_call}
 use Rattle.phases.specs.CallPlaces.{IsFrom, IsPart, IsWellFormed, moved_kind, moved_call}
-use Rattle.phases.specs.Cuts.{IsCut}
-use Rattle.phases.specs.Joining.{IsJoined, cut_between, put, merge, join}
+use Rattle.phases.specs.Cuts.{IsCutInTwo}
+use Rattle.phases.specs.Joining.{IsJoinOf, cut_between, put, merge, join}
 use Rattle.phases.specs.Laws.{JoinIsJoined}
 use Rattle.phases.proofs.Parts.{message_moved, pattern_moved, one_place}
 use Rattle.phases.proofs.Walks.{apart}
@@ -211,7 +211,7 @@ module _ (first second : MpiProgram) where
   abbrev seconds : List Call
   seconds = map (λ call. moved_call (shift_second call) call) second.calls
 
-  join_joined : IsWellFormed first → IsWellFormed second → second.policy ≡ first.policy → second.ranks ≡ first.ranks → IsJoined (join first second) first second
+  join_joined : IsWellFormed first → IsWellFormed second → second.policy ≡ first.policy → second.ranks ≡ first.ranks → IsJoinOf (join first second) first second
   join_joined one two policy ranks =
       record {
         policy_first = refl;
@@ -331,8 +331,8 @@ module _ (p q : MpiProgram) (moved : ℕ → ℕ) (part : IsPart p q moved) wher
       let low = is.waits_later n.place n.name n.call n.there n.names_it in
       omega (arith, low, n.is, n.name_is, ap moved n.rank)
 
-module _ (p first second : MpiProgram) (order : InOrder p) (one : IsWellFormed first) (two : IsWellFormed second) (joined : IsJoined p first second) where
-  cut : IsCut p (cut_between first second)
+module _ (p first second : MpiProgram) (order : InOrder p) (one : IsWellFormed first) (two : IsWellFormed second) (joined : IsJoinOf p first second) where
+  cut : IsCutInTwo p (cut_between first second)
   cut = is_cut p first second order one two joined
 
   pairing_of : (names : Kind ℕ → Option ℕ) (test : Kind ℕ → Bool) → MovesNames names → KeepsTest test → IsPairing first.calls names test → IsPairing second.calls names test → IsPairing p.calls names test

@@ -3,7 +3,7 @@ use Rattle.std.proofs.Common.{◌≡◌, List, [], ◌∷◌, ◌∙◌, refl}
 use Rattle.callorder.specs.Programs.{MpiProgram}
 use Rattle.semantics.specs.Headline.{NoStuckRun}
 use Rattle.phases.specs.CallPlaces.{IsWellFormed}
-use Rattle.phases.specs.Cuts.{IsCut}
+use Rattle.phases.specs.Cuts.{IsCutInTwo}
 use Rattle.phases.specs.Joining.{join, join_all, cut_between}
 use Rattle.phases.specs.Laws.{ProgramsAreWellFormed, LeavesNothingIsBalanced, ArePhases, FollowsInTime, IsNamedBefore, IsOrderedBefore, TimelyPhasesAreNeverStuck, NamedPhasesAreNeverStuck, OrderedPhasesAreNeverStuck}
 use Rattle.phases.proofs.Walks.{whole_is_never_stuck}
@@ -29,7 +29,7 @@ ranks_of_all p (q ∷ others) = refl
 -- a condition that keeps what comes too early off
 abbrev KeepsInTime : (MpiProgram → MpiProgram → Type 0) → Type 0
 KeepsInTime Holds =
-    (p following : MpiProgram) → IsWellFormed (join p following) → IsCut (join p following) (cut_between p following) → Holds p following → FollowsInTime p following
+    (p following : MpiProgram) → IsWellFormed (join p following) → IsCutInTwo (join p following) (cut_between p following) → Holds p following → FollowsInTime p following
 
 well_formed : (Holds : MpiProgram → MpiProgram → Type 0) (p : MpiProgram) (others : List MpiProgram) → ArePhases Holds p others → IsWellFormed (join_all p others)
 well_formed Holds p [] phases = phases.well_formed

@@ -15,7 +15,7 @@ use Rattle.callorder.specs.Programs.{MpiProgram, call_at, is_of_rank}
 use Rattle.semantics.specs.Machine.{first_call, opening, after_all, is_rank_finished, has_next, has_returned_before}
 use Rattle.semantics.specs.Headline.{NoStuckRun}
 use Rattle.phases.specs.CallPlaces.{IsWellFormed, moved_kind, moved_call}
-use Rattle.phases.specs.Joining.{IsJoined, cut_between}
+use Rattle.phases.specs.Joining.{IsJoinOf, cut_between}
 use Rattle.phases.specs.Rests.{IsFront, behind, drop_front, lowered_kind, lowered_call}
 use Rattle.phases.specs.Laws.{FrontIsJoined, OnePhaseMore, LastPhase}
 use Rattle.phases.proofs.Parts.{of_rank, before_from, message_moved, pattern_moved}
@@ -128,7 +128,7 @@ module _ (q d : MpiProgram) (is_q : IsWellFormed q) (is_d : IsWellFormed d) (fro
           of_kind : ℕ → Kind ℕ → Call
           of_kind rank kind = record { rank = rank; kind = kind }
 
-  pub joined : IsJoined q d b
+  pub joined : IsJoinOf q d b
   joined =
       record {
         policy_first = front.policy;

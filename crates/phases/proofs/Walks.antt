@@ -16,7 +16,7 @@ use Rattle.semantics.proofs.Runs.{IsConfigurationOf-opening}
 use Rattle.run_laws.specs.Laws.{IsOpenPair}
 use Rattle.run_laws.proofs.Descent.{some_match_or_see_is_enabled}
 use Rattle.phases.specs.CallPlaces.{IsFrom, IsWellFormed, moved_call}
-use Rattle.phases.specs.Cuts.{Cut, IsCut, StayInParts, StaysInPart, AreOfOnePart}
+use Rattle.phases.specs.Cuts.{Cut, IsCutInTwo, StayInParts, StaysInPart, AreOfOnePart}
 use Rattle.phases.specs.Laws.{WholeIsNeverStuck}
 use Rattle.phases.proofs.Parts.{of_rank, rank_is, before_to, before_from, IssueParts, issue_parts, issue_made, SamePartner, IsSeen, set_in_both, probe_moved, one_place, same_place, match_written, see_written, before_in_part, find_in_part, open_in_whole, fit_calls_there, of_rank_between, from_rank, may_in_part, may_in_whole, returned_from}
 use Rattle.semantics.proofs.Lengths.{configuration_after}
@@ -41,7 +41,7 @@ nobody q moved k n C c =
     subst (λ (z : Option ℕ). SamePartner q moved z (get_or (replicate n None) c None)) (sym (none_yet None k C))
     (subst (λ (z : Option ℕ). SamePartner q moved None z) (sym (none_yet None n c)) tt)
 
-module _ (p : MpiProgram) (x : Cut) (one : IsWellFormed x.first) (two : IsWellFormed x.second) (cut : IsCut p x) where
+module _ (p : MpiProgram) (x : Cut) (one : IsWellFormed x.first) (two : IsWellFormed x.second) (cut : IsCutInTwo p x) where
   -- ---- where a rank is
 
   -- the rank's next call is of the first part: the places of its next calls in the whole and in the

@@ -19,7 +19,7 @@ pub record Cut : Type 0 where
 
 -- The program is the first part and then, at each rank, the second: each call is of one of them,
 -- and at each rank the second part's calls follow those of the first.
-pub record IsCut (p : MpiProgram) (x : Cut) : Type 0 where
+pub record IsCutInTwo (p : MpiProgram) (x : Cut) : Type 0 where
   pub first : IsPart p x.first x.moved_first
   pub second : IsPart p x.second x.moved_second
   pub each : (c : ℕ) (call : Call) → call_at p c ≡ Some call → IsFrom x.first x.moved_first c ⊎ IsFrom x.second x.moved_second c

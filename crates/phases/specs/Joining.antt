@@ -36,7 +36,7 @@ join_all p (q ∷ others) = join p (join_all q others)
 -- The program is the first and then, at each rank, the second: it has as many calls of lower ranks
 -- as both have, a rank's calls of the first stand behind those of lower ranks of the second, and a
 -- rank's calls of the second behind those of the same and lower ranks of the first.
-pub record IsJoined (p first second : MpiProgram) : Type 0 where
+pub record IsJoinOf (p first second : MpiProgram) : Type 0 where
   pub policy_first : first.policy ≡ p.policy
   pub policy_second : second.policy ≡ p.policy
   pub ranks_first : first.ranks ≡ p.ranks

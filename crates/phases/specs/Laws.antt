@@ -8,10 +8,10 @@ use Rattle.semantics.specs.Headline.{NoStuckRun}
 use Rattle.semantics.specs.Machine.{IsRun, opening, after_all, is_issued, is_matched}
 use Rattle.races.specs.Races.{NamesSources}
 use Rattle.phases.specs.CallPlaces.{IsWellFormed}
-use Rattle.phases.specs.Cuts.{Cut, IsCut, IsClean}
-use Rattle.phases.specs.Joining.{join, join_all, IsJoined, cut_between}
+use Rattle.phases.specs.Cuts.{Cut, IsCutInTwo, IsClean}
+use Rattle.phases.specs.Joining.{join, join_all, IsJoinOf, cut_between}
 use Rattle.phases.specs.Conditions.{ComesAfter, IsBalanced, IsTimely, LeavesNothing}
-use Rattle.phases.specs.Order.{AreCounterparts, IsAfter, IsOrdered}
+use Rattle.phases.specs.Order.{AreCounterparts, IsAfter, IsOrderedCut}
 use Rattle.phases.specs.Rests.{IsFront, behind}
 
 -- each program within any limits is well formed
@@ -24,14 +24,14 @@ ProgramsAreWellFormed = (l : Limits) (p : MpiProgram) → IsProgramWithin l p �
 -- messages that the first part leaves: a clean cut has none that the second could receive.
 abbrev pub WholeIsNeverStuck : Type 0
 WholeIsNeverStuck =
-    (p : MpiProgram) (x : Cut) → IsWellFormed x.first → IsWellFormed x.second → IsCut p x → IsClean p x
+    (p : MpiProgram) (x : Cut) → IsWellFormed x.first → IsWellFormed x.second → IsCutInTwo p x → IsClean p x
     → NoStuckRun x.first → NoStuckRun x.second → NoStuckRun p
 
 -- Where the first part is balanced and has no stuck run, and no send of the second comes in time
 -- for a finder of the first, the cut is clean.
 abbrev pub BalancedIsClean : Type 0
 BalancedIsClean =
-    (p : MpiProgram) (x : Cut) → IsWellFormed p → IsWellFormed x.first → IsWellFormed x.second → IsCut p x
+    (p : MpiProgram) (x : Cut) → IsWellFormed p → IsWellFormed x.first → IsWellFormed x.second → IsCutInTwo p x
     → IsBalanced x.first x.second → IsTimely p x → NoStuckRun x.first → IsClean p x
 
 -- a part that takes all that is sent in it is balanced, whatever follows
@@ -40,7 +40,7 @@ LeavesNothingIsBalanced = (p following : MpiProgram) → LeavesNothing p → IsB
 
 -- Where each finder of the first part names its source, no send of the second comes in time for it.
 abbrev pub NamedIsTimely : Type 0
-NamedIsTimely = (p : MpiProgram) (x : Cut) → IsCut p x → NamesSources x.first → IsTimely p x
+NamedIsTimely = (p : MpiProgram) (x : Cut) → IsCutInTwo p x → NamesSources x.first → IsTimely p x
 
 -- The taker of a message whose envelope each such taker names is matched only after its send was
 -- issued.
@@ -55,19 +55,19 @@ MessagesOrder = (p : MpiProgram) (c f : ℕ) (messages : List (ℕ × ℕ)) → 
 
 -- So where sends of the second part come after finders of the first, none comes in time.
 abbrev pub OrderedIsTimely : Type 0
-OrderedIsTimely = (p : MpiProgram) (x : Cut) → IsWellFormed p → IsOrdered p x → IsTimely p x
+OrderedIsTimely = (p : MpiProgram) (x : Cut) → IsWellFormed p → IsOrderedCut p x → IsTimely p x
 
 -- ---- programs one after another
 
 -- Two programs that are joined are a cut of the whole.
 abbrev pub JoinedIsCut : Type 0
-JoinedIsCut = (p first second : MpiProgram) → IsWellFormed p → IsWellFormed first → IsWellFormed second → IsJoined p first second → IsCut p (cut_between first second)
+JoinedIsCut = (p first second : MpiProgram) → IsWellFormed p → IsWellFormed first → IsWellFormed second → IsJoinOf p first second → IsCutInTwo p (cut_between first second)
 
 -- Two programs of one policy and as many ranks can be joined, and what is joined is well formed.
 abbrev pub JoinIsJoined : Type 0
 JoinIsJoined =
     (first second : MpiProgram) → IsWellFormed first → IsWellFormed second → second.policy ≡ first.policy → second.ranks ≡ first.ranks
-    → IsJoined (join first second) first second × IsWellFormed (join first second)
+    → IsJoinOf (join first second) first second × IsWellFormed (join first second)
 
 -- ---- phases
 
@@ -106,7 +106,7 @@ NamedPhasesAreNeverStuck = (p : MpiProgram) (others : List MpiProgram) → ArePh
 
 -- sends of what follows come after finders of the phase
 abbrev pub IsOrderedBefore : MpiProgram → MpiProgram → Type 0
-IsOrderedBefore p following = IsOrdered (join p following) (cut_between p following)
+IsOrderedBefore p following = IsOrderedCut (join p following) (cut_between p following)
 
 -- So where sends of later phases come after finders of earlier ones by messages.
 abbrev pub OrderedPhasesAreNeverStuck : Type 0
@@ -117,7 +117,7 @@ OrderedPhasesAreNeverStuck = (p : MpiProgram) (others : List MpiProgram) → Are
 -- A program is the first calls of each rank and then what is left behind them, which is a well
 -- formed program.
 abbrev pub FrontIsJoined : Type 0
-FrontIsJoined = (q d : MpiProgram) → IsWellFormed q → IsWellFormed d → IsFront q d → IsJoined q d (behind q d) × IsWellFormed (behind q d)
+FrontIsJoined = (q d : MpiProgram) → IsWellFormed q → IsWellFormed d → IsFront q d → IsJoinOf q d (behind q d) × IsWellFormed (behind q d)
 
 -- A program has no stuck run where a phase in front of it and what is left behind the phase have
 -- none, and the phase leaves no message and names its sources.

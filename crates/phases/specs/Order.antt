@@ -93,7 +93,7 @@ IsAfter p c f (message ∷ messages) = StandsBehind p c message.1 × AreCounterp
 
 -- Each send of the second part that fits a finder of the first is of the rank of all sends there
 -- that fit that finder, or comes after it by some messages.
-abbrev pub IsOrdered : MpiProgram → Cut → Type 0
-IsOrdered p x =
+abbrev pub IsOrderedCut : MpiProgram → Cut → Type 0
+IsOrderedCut p x =
     (s f : ℕ) → IsFrom x.second x.moved_second s → IsFrom x.first x.moved_first f → IsTrue (are_fit p s f)
     → IsOfOnlySender p x.first x.moved_first s f ⊎ ((messages : List (ℕ × ℕ)) × IsAfter p s f messages)

@@ -12,8 +12,8 @@ use Rattle.refutations.specs.declared.refutation.FaultyLine.{FaultyLine}
 use Rattle.refutations.proofs.Covers.{AreDerivedBetween-none}
 use Rattle.pieces.specs.declared.piece.LinesFault.{LinesFault}
 use Rattle.pieces.specs.declared.piece.LinesFault.TheVariants.{Memory, Line}
-use Rattle.pieces.specs.parts.Pieces.{AreOfPieces, first_fault, is_memory, joined}
-use Rattle.pieces.specs.Pieces.{Answer, Answers, OfPart, OfPiece, start_of}
+use Rattle.pieces.specs.parts.Pieces.{AreOfPieces, first_fault, is_memory, joined_answers}
+use Rattle.pieces.specs.Pieces.{Answer, Answers, OfPart, OfPiece, start_of_piece}
 
 -- one part after another
 both_parts : (f : Conjunction) (lines : List ProofLine) (mid to : ℕ) → AreDerivedBetween f lines 0 mid → AreDerivedBetween f lines mid to → AreDerivedBetween f lines 0 to
@@ -34,41 +34,41 @@ after_front f lines mid found front first = record {
   fault = first.fault;
 }
 
-starts_at_none : (lines pieces : ℕ) → start_of lines pieces 0 ≡ 0
+starts_at_none : (lines pieces : ℕ) → start_of_piece lines pieces 0 ≡ 0
 starts_at_none lines pieces = grind arith
 
-ends_at_all : (lines pieces : ℕ) → 0 < pieces → start_of lines pieces pieces ≡ lines
+ends_at_all : (lines pieces : ℕ) → 0 < pieces → start_of_piece lines pieces pieces ≡ lines
 ends_at_all lines pieces some = mul-div_cancel_left lines some
 
 from_piece : (f : Conjunction) (lines : List ProofLine) (pieces : ℕ) → 0 < pieces → (k : ℕ) (answers : List Answer)
     → ((i piece : ℕ) (d : Answer) → i < length answers → piece ≡ k + i → OfPiece f lines pieces piece (slice_index_or answers i d))
-    → k + length answers ≡ pieces → AreDerivedBetween f lines 0 (start_of (length lines) pieces k) → Answers f lines (first_fault answers)
+    → k + length answers ≡ pieces → AreDerivedBetween f lines 0 (start_of_piece (length lines) pieces k) → Answers f lines (first_fault answers)
 from_piece f lines pieces some k [] each all front =
     let last : pieces ≡ k = omega arith in
-    let ends : start_of (length lines) pieces k ≡ length lines = ap (start_of (length lines) pieces) (sym last) ∙ ends_at_all (length lines) pieces some in
+    let ends : start_of_piece (length lines) pieces k ≡ length lines = ap (start_of_piece (length lines) pieces) (sym last) ∙ ends_at_all (length lines) pieces some in
     subst (λ (to : ℕ). AreDerivedBetween f lines 0 to) ends front
 from_piece f lines pieces some k (Ok u ∷ answers) each all front =
-    let here : AreDerivedBetween f lines (start_of (length lines) pieces k) (start_of (length lines) pieces (k + 1)) = each 0 k (Ok u) (omega arith) (omega arith) in
+    let here : AreDerivedBetween f lines (start_of_piece (length lines) pieces k) (start_of_piece (length lines) pieces (k + 1)) = each 0 k (Ok u) (omega arith) (omega arith) in
     from_piece f lines pieces some (k + 1) answers
     (λ i piece d within is. each (suc i) piece d (omega arith) (omega arith)) (omega arith)
-    (both_parts f lines (start_of (length lines) pieces k) (start_of (length lines) pieces (k + 1)) front here)
+    (both_parts f lines (start_of_piece (length lines) pieces k) (start_of_piece (length lines) pieces (k + 1)) front here)
 from_piece f lines pieces some k (Err (Line found) ∷ answers) each all front =
-    let here : IsFirstFaulty f lines (start_of (length lines) pieces k) found = each 0 k (Err (Line found)) (omega arith) (omega arith) in
-    after_front f lines (start_of (length lines) pieces k) found front here
+    let here : IsFirstFaulty f lines (start_of_piece (length lines) pieces k) found = each 0 k (Err (Line found)) (omega arith) (omega arith) in
+    after_front f lines (start_of_piece (length lines) pieces k) found front here
 from_piece f lines pieces some k (Err Memory ∷ answers) each all front = tt
 
 -- the only piece has all lines
 pub one_piece : (f : Conjunction) (lines : List ProofLine) (answer : Answer) → OfPiece f lines 1 0 answer → Answers f lines answer
 one_piece f lines answer of_piece =
-    let from_first = subst (λ (from : ℕ). OfPart f lines from (start_of (length lines) 1 1) answer) (starts_at_none (length lines) 1) of_piece in
+    let from_first = subst (λ (from : ℕ). OfPart f lines from (start_of_piece (length lines) 1 1) answer) (starts_at_none (length lines) 1) of_piece in
     subst (λ (to : ℕ). OfPart f lines 0 to answer) (ends_at_all (length lines) 1 (omega arith)) from_first
 
 -- the pieces together answer for all lines
 pub joined-answers : (f : Conjunction) (lines : List ProofLine) (pieces : ℕ) (answers : List Answer) → 0 < pieces → AreOfPieces f lines pieces answers
-    → Answers f lines (joined answers)
+    → Answers f lines (joined_answers answers)
 joined-answers f lines pieces answers some of_pieces = go (list_any is_memory answers)
   where
-    none : AreDerivedBetween f lines 0 (start_of (length lines) pieces 0)
+    none : AreDerivedBetween f lines 0 (start_of_piece (length lines) pieces 0)
     none = subst (λ (to : ℕ). AreDerivedBetween f lines 0 to) (sym (starts_at_none (length lines) pieces)) (AreDerivedBetween-none f lines 0)
 
     go : (b : Bool) → Answers f lines (if b then Err Memory else first_fault answers)

@@ -1,7 +1,7 @@
 //! One piece.
 
 ghost use Rattle.std.specs.Prelude.{◌≤◌, ◌<◌, ◌≡◌};
-ghost use Rattle.pieces.specs.Pieces.{Answers, OfPiece, start_of};
+ghost use Rattle.pieces.specs.Pieces.{Answers, OfPiece, start_of_piece};
 
 use clauses::Formula;
 use refutations::{FaultyLine, Line, PartialAssignment, check_lines_in};
@@ -24,7 +24,7 @@ fn start_of(lines: usize, pieces: usize, piece: usize) -> usize
     requires some { 0 < pieces }
     requires few { pieces ≤ 64 }
     requires within { piece ≤ pieces }
-    ensures { result ≡ start_of lines pieces piece }
+    ensures { result ≡ start_of_piece lines pieces piece }
 {
     (piece as u128 * lines as u128 / pieces as u128) as usize
 }

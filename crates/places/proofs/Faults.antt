@@ -1,14 +1,14 @@
 -- The first line of a map that may not stand there.
 use Rattle.std.proofs.Common.{◌≡◌, ◌∙◌, ◌⊎◌, ◌+◌, ℕ, true, false, List, [], ◌∷◌, ◌++◌, ap, inl, inr, refl, sym, subst, arith, codes, drop, get_or, length}
 use Rattle.plaintext.specs.TextLines.{text_lines}
-use Rattle.places.specs.Maps.{CanGoOn, IsFaultyLine, MayStand, heading}
+use Rattle.places.specs.Maps.{CanAllStand, IsFaultyLine, MayStand, map_heading}
 
 -- the first two lines of a map
 abbrev pub title : List ℕ
 title = codes "map 1" ++ 10 ∷ []
 
 abbrev pub name_line : List ℕ → List ℕ
-name_line text = heading text ++ 10 ∷ []
+name_line text = map_heading text ++ 10 ∷ []
 
 -- each of the lines below them may stand where it stands
 abbrev pub Stand : List ℕ → List (List ℕ) → Type 0
@@ -50,19 +50,19 @@ stand_more text seen x stand may above line below is = elim (split_more seen x a
   | inr at ↦ stand above line at.0 at.1
 ]
 
-pub go_on : (text : List ℕ) (seen : List (List ℕ)) → Stand text seen → CanGoOn text (title ∷ name_line text ∷ seen)
+pub go_on : (text : List ℕ) (seen : List (List ℕ)) → Stand text seen → CanAllStand text (title ∷ name_line text ∷ seen)
 go_on text seen stand [] line below is = sym (head_of title line (name_line text ∷ seen) below is)
 go_on text seen stand (a ∷ []) line below is =
     sym (head_of (name_line text) line seen below (tail_of title a (name_line text ∷ seen) (line ∷ below) is))
 go_on text seen stand (a ∷ b ∷ above) line below is =
     stand above line below (tail_of (name_line text) b seen (above ++ line ∷ below) (tail_of title a (name_line text ∷ seen) (b ∷ (above ++ line ∷ below)) is))
 
-go_on_title : (text : List ℕ) → CanGoOn text (title ∷ [])
+go_on_title : (text : List ℕ) → CanAllStand text (title ∷ [])
 go_on_title text [] line below is = sym (head_of title line [] below is)
 go_on_title text (a ∷ above) line below is = absurd (no_split above line below (tail_of title a [] (above ++ line ∷ below) is))
 
 faulty : (text map : List ℕ) (number : ℕ) (above : List (List ℕ)) (line : List ℕ) (after : List (List ℕ)) → text_lines map ≡ above ++ line ∷ after
-    → number ≡ length above + 1 → CanGoOn text above → (MayStand text above line → ⊥) → IsFaultyLine text map number line
+    → number ≡ length above + 1 → CanAllStand text above → (MayStand text above line → ⊥) → IsFaultyLine text map number line
 faulty text map number above line after is counts good none = record {
   above = above;
   faulty = record { cut = (after, is); good = good; bad = λ can. none (can above line [] refl) };

@@ -6,7 +6,7 @@ use Rattle.std.proofs.lemmas.List.Concat.{flat_map-append}
 use Rattle.options.specs.declared.form.Form.{Form}
 use Rattle.places.specs.Maps.{AreDigits}
 use Rattle.places.specs.Marks.{BeginsWithNoDigit, IsAround}
-use Rattle.places.specs.Woven.{AreCut, IsNamed, IsPlaced, Piece, kept_of, marker, told_of}
+use Rattle.places.specs.Woven.{AreCut, IsNamedLine, IsPlaced, Piece, kept_of, marker, told_of}
 
 pub next_bytes : (f : ℕ → List ℕ) (bytes : List ℕ) (index : ℕ) → index < length bytes
     → flat_map f (take (index + 1) bytes) ≡ flat_map f (take index bytes) ++ f (get_or bytes index 0)
@@ -38,7 +38,7 @@ cut_more form map (p ∷ pieces) piece rest (first, free, others) placed none = 
 
 -- the part that ends with the first marker of a text and the digits behind it
 pub placed_piece : (form : Form) (map text front digits behind rest named : List ℕ) → IsAround (marker form) text front behind → behind ≡ digits ++ rest
-    → AreDigits digits → IsNamed form map digits named
+    → AreDigits digits → IsNamedLine form map digits named
     → (piece : Piece) × IsPlaced form map piece × (text ≡ piece.kept ++ rest) × (piece.told ≡ front ++ named)
 placed_piece form map text front digits behind rest named at is are names = (
   record { kept = kept; told = front ++ named },

@@ -10,8 +10,8 @@ use Rattle.plaintext.specs.TextLines.{text_lines}
 use Rattle.plaintext.specs.Plain.{numeral}
 use Rattle.plaintext.proofs.Cuts.{no_line_of}
 use Rattle.plaintext.proofs.Numerals.{numeral_injective}
-use Rattle.places.specs.Maps.{AreOf, CanGoOn, HasLineOf, IsLineOf, IsMapFault, IsMapOf, IsRemark, MayStand, entry_line}
-use Rattle.places.specs.parts.Noting.{HasNoPlace, IsLeft, IsTaken, IsTakenIf, Notes}
+use Rattle.places.specs.Maps.{AreOf, CanAllStand, HasLineOf, IsLineOf, IsMapFault, IsMapOf, IsRemark, MayStand, entry_line}
+use Rattle.places.specs.parts.Noting.{HasNoPlace, IsLeft, IsTakenLine, IsTakenIf, Notes}
 use Rattle.places.specs.declared.entries.Entry.{Entry}
 use Rattle.places.specs.declared.map.MapFault.TheVariants as faults
 use Rattle.places.proofs.Digits.{no_digit, same_digits}
@@ -205,7 +205,7 @@ read_none text map rest entries lines room none long = record {
   long = long;
 }
 
-taken_may : (text : List ℕ) (seen : List (List ℕ)) (line : List ℕ) (old new : List (Option Entry)) → AreOf seen old → length old ≡ length (text_lines text) → IsTaken old new line
+taken_may : (text : List ℕ) (seen : List (List ℕ)) (line : List ℕ) (old new : List (Option Entry)) → AreOf seen old → length old ≡ length (text_lines text) → IsTakenLine old new line
     → MayStand text (title ∷ name_line text ∷ seen) (line ++ 10 ∷ []) × AreOf (seen ++ (line ++ 10 ∷ []) ∷ []) new × (length new ≡ length old)
 taken_may text seen line old new are long (inl (entry, of, notes)) =
     (may_entry text seen line old new entry are of notes long, of_entry seen line old new entry are of notes same_or, notes.as_long)
@@ -213,7 +213,7 @@ taken_may text seen line old new are long (inr (remark, none, same)) =
     (may_remark text seen line remark, of_remark seen line old new are same none, ap (λ (l : List (Option Entry)). length l) same)
 
 pub read_more : (text map rest last line behind : List ℕ) (number : ℕ) (old new : List (Option Entry)) → Read text map rest last number old
-    → text_lines rest ≡ (line ++ 10 ∷ []) ∷ text_lines behind → length behind < length rest → IsTaken old new line → Read text map behind line (number + 1) new
+    → text_lines rest ≡ (line ++ 10 ∷ []) ∷ text_lines behind → length behind < length rest → IsTakenLine old new line → Read text map behind line (number + 1) new
 read_more text map rest last line behind number old new r next shorter taken =
     let (may, are, long) = taken_may text r.seen line old new r.are r.long taken in
     record {
@@ -287,7 +287,7 @@ of_end seen entries are = record {
 pub read_whole : (text map rest last : List ℕ) (number : ℕ) (entries : List (Option Entry)) → Read text map rest last number entries
     → text_lines rest ≡ rest ∷ [] → last ≡ codes "end" → rest ≡ [] → IsMapOf text map × AreOf (drop 2 (text_lines map)) entries
 read_whole text map rest last number entries r one end none = (
-  subst (λ (l : List (List ℕ)). CanGoOn text l) (sym lines) (go_on text (r.seen ++ [] ∷ []) (stand_more text r.seen [] r.stand (inl (refl, ends r.last_is)))),
+  subst (λ (l : List (List ℕ)). CanAllStand text l) (sym lines) (go_on text (r.seen ++ [] ∷ []) (stand_more text r.seen [] r.stand (inl (refl, ends r.last_is)))),
   subst (λ (l : List (List ℕ)). AreOf (drop 2 l) entries) (sym lines) (of_end r.seen entries r.are),
 )
   where

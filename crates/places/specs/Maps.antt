@@ -59,8 +59,8 @@ abbrev pub hex_digits : ℕ → List ℕ
 hex_digits n = padded_integral (format_spec 32 0 4 16 (2 ^ 64 - 1)) false [] (digits 16 false n)
 
 -- the line, without its LF, by which a map names its text
-abbrev pub heading : List ℕ → List ℕ
-heading text = codes "of " ++ (decimal (length text) ++ (codes " bytes, sum " ++ hex_digits (sum_of text)))
+abbrev pub map_heading : List ℕ → List ℕ
+map_heading text = codes "of " ++ (decimal (length text) ++ (codes " bytes, sum " ++ hex_digits (sum_of text)))
 
 -- ---- what may stand in it
 
@@ -82,23 +82,23 @@ IsEnd above line = (line ≡ []) × ((front : List (List ℕ)) × (above ≡ fro
 -- name, then remarks and entries. Behind the last LF stands a line of no byte.
 abbrev pub MayStand : List ℕ → List (List ℕ) → List ℕ → Type 0
 MayStand text [] line = line ≡ codes "map 1" ++ 10 ∷ []
-MayStand text (first ∷ []) line = line ≡ heading text ++ 10 ∷ []
+MayStand text (first ∷ []) line = line ≡ map_heading text ++ 10 ∷ []
 MayStand text (first ∷ second ∷ above) line =
     IsEnd above line ⊎ ((words : List ℕ) × (line ≡ words ++ 10 ∷ []) × (IsRemark words ⊎ IsNewEntry text above words))
 
 -- each of the lines may stand where it stands
-abbrev pub CanGoOn : List ℕ → List (List ℕ) → Type 0
-CanGoOn text lines = (above : List (List ℕ)) (line : List ℕ) (below : List (List ℕ)) → lines ≡ above ++ line ∷ below → MayStand text above line
+abbrev pub CanAllStand : List ℕ → List (List ℕ) → Type 0
+CanAllStand text lines = (above : List (List ℕ)) (line : List ℕ) (below : List (List ℕ)) → lines ≡ above ++ line ∷ below → MayStand text above line
 
 abbrev pub IsMapOf : List ℕ → List ℕ → Type 0
-IsMapOf text map = CanGoOn text (text_lines map)
+IsMapOf text map = CanAllStand text (text_lines map)
 
 -- ---- what is wrong with one
 
 -- the line of this number, from 1, is the first that may not stand there
 pub record IsFaultyLine (text map : List ℕ) (number : ℕ) (line : List ℕ) : Type 0 where
   pub above : List (List ℕ)
-  pub faulty : IsFirstFaultyLine (CanGoOn text) map above line
+  pub faulty : IsFirstFaultyLine (CanAllStand text) map above line
   pub number_is : number ≡ length above + 1
 
 -- the second line names another text, where it begins as a name; else the first faulty line is told

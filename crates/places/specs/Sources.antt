@@ -14,12 +14,12 @@ abbrev pub last_digits : List ℕ → ℕ
 last_digits bytes = length (take_while is_digit (reverse bytes))
 
 -- a byte or more, none of them a quote, and behind them a colon
-abbrev pub is_name : List ℕ → Bool
-is_name bytes = nat_lt 1 (length bytes) && (ends_with (λ x y. x == y) bytes (codes ":") && not (list_any (λ byte. byte == 34) bytes))
+abbrev pub is_source_name : List ℕ → Bool
+is_source_name bytes = nat_lt 1 (length bytes) && (ends_with (λ x y. x == y) bytes (codes ":") && not (list_any (λ byte. byte == 34) bytes))
 
 -- a name, a colon and digits
 abbrev pub is_source : List ℕ → Bool
-is_source part = nat_lt 0 (last_digits part) && is_name (take (length part - last_digits part) part)
+is_source part = nat_lt 0 (last_digits part) && is_source_name (take (length part - last_digits part) part)
 
 -- the first part of the words that is a source
 abbrev pub source_of : List ℕ → Option (List ℕ)

@@ -41,9 +41,9 @@ shown forms.Chart = plain_byte
 shown forms.Messages = plain_byte
 
 -- what stands before the words of a place, and behind them
-abbrev pub opening : Form → List ℕ
-opening forms.Object = codes ",\"place\":\""
-opening _ = codes " ("
+abbrev pub place_opening : Form → List ℕ
+place_opening forms.Object = codes ",\"place\":\""
+place_opening _ = codes " ("
 
 abbrev pub closing : Form → List ℕ
 closing forms.Object = codes "\""
@@ -51,13 +51,13 @@ closing _ = codes ")"
 
 -- what a text of this form tells of the words of a map: all in an object, and in another what
 -- stands before the first mark ` < `, behind which callers stand
-abbrev pub IsTold : Form → List ℕ → List ℕ → Type 0
-IsTold forms.Object words told = told ≡ words
-IsTold _ words told = (Lacks (codes " < ") words × (told ≡ words)) ⊎ ((callers : List ℕ) × IsAround (codes " < ") words told callers)
+abbrev pub IsToldOfWords : Form → List ℕ → List ℕ → Type 0
+IsToldOfWords forms.Object words told = told ≡ words
+IsToldOfWords _ words told = (Lacks (codes " < ") words × (told ≡ words)) ⊎ ((callers : List ℕ) × IsAround (codes " < ") words told callers)
 
 -- what is added behind the number of a line of which these words are told
 abbrev pub place_text : Form → List ℕ → List ℕ
-place_text form words = opening form ++ (flat_map (shown form) words ++ closing form)
+place_text form words = place_opening form ++ (flat_map (shown form) words ++ closing form)
 
 -- a part of the text, and what is told in its place
 pub record Piece : Type 0 where
@@ -68,7 +68,7 @@ pub record Piece : Type 0 where
 -- nothing where it has none
 abbrev pub IsSaid : Form → List ℕ → List ℕ → List ℕ → Type 0
 IsSaid form map digits added =
-    ((words : List ℕ) × (short : List ℕ) × HasEntry map digits words × IsTold form words short × (added ≡ place_text form short))
+    ((words : List ℕ) × (short : List ℕ) × HasEntry map digits words × IsToldOfWords form words short × (added ≡ place_text form short))
     ⊎ (((words : List ℕ) → HasEntry map digits words → ⊥) × (added ≡ []))
 
 -- what names a line in a message: its source, or where none is known its number
@@ -92,8 +92,8 @@ IsNamedIf true form map digits named = IsAtSource map digits named
 IsNamedIf false form map digits named = (added : List ℕ) × IsSaid form map digits added × (named ≡ marker form ++ (digits ++ added))
 
 -- what is told of the line whose number has these digits
-abbrev pub IsNamed : Form → List ℕ → List ℕ → List ℕ → Type 0
-IsNamed form = IsNamedIf (is_in_place form) form
+abbrev pub IsNamedLine : Form → List ℕ → List ℕ → List ℕ → Type 0
+IsNamedLine form = IsNamedIf (is_in_place form) form
 
 -- the part ends with the first marker in it and the digits behind that, and in their place it is
 -- told what names their line
@@ -104,7 +104,7 @@ pub record IsPlaced (form : Form) (map : List ℕ) (piece : Piece) : Type 0 wher
   pub ends : piece.kept ≡ front ++ (marker form ++ digits)
   pub first : (a b : List ℕ) → piece.kept ≡ a ++ (marker form ++ b) → length front ≤ length a
   pub are : AreDigits digits
-  pub names : IsNamed form map digits named
+  pub names : IsNamedLine form map digits named
   pub told_is : piece.told ≡ front ++ named
 
 abbrev pub kept_of : List Piece → List ℕ

@@ -2,7 +2,7 @@
 
 ghost use Rattle.std.specs.Prelude.{◌≡◌, ◌≤◌, ◌+◌, ◌++◌, ◌∷◌, ◌↔◌, [], true, false, codes, IfErr, IfNone, IfOk, IfSome, IsTrue, List, ℕ, Some, length, slice_get, string_bytes};
 ghost use Rattle.plaintext.specs.TextLines.{text_lines};
-ghost use Rattle.places.specs.Maps.{AreFrom, HasEntry, IsMapFault, IsMapOf, IsRemark, StartsWith, heading, hex_digits};
+ghost use Rattle.places.specs.Maps.{AreFrom, HasEntry, IsMapFault, IsMapOf, IsRemark, StartsWith, map_heading, hex_digits};
 ghost use Rattle.places.specs.parts.Noting.{HasNoPlace, IsTakenIf, Notes};
 ghost use Rattle.places.specs.declared.entries.Entry.{Entry};
 
@@ -52,7 +52,7 @@ fn hex_digits(alloc: Global, number: u64) -> Result<String, AllocError>
 
 /// The line, without its LF, by which a map names its text.
 pub fn heading_of(alloc: Global, text: &[u8]) -> Result<String, AllocError>
-    ensures { IfOk result (λ line. string_bytes line ≡ heading text.now) }
+    ensures { IfOk result (λ line. string_bytes line ≡ map_heading text.now) }
 {
     let mut line = String::from_str(alloc, "of ")?;
     line.push_str(&text.len().to_string(alloc)?)?;
@@ -66,7 +66,7 @@ fn behind_heading<'a>(map: &'a [u8], text_heading: &[u8]) -> Result<&'a [u8], Ma
     ensures ok { IfOk result (λ rest. text_lines map.now ≡
         (codes "map 1" ++ 10 ∷ []) ∷ (text_heading.now ++ 10 ∷ []) ∷ text_lines rest.now) }
     ensures shorter { IfOk result (λ rest. length rest.now + 2 ≤ length map.now) }
-    ensures fault { IfErr result (λ fault. (text : List ℕ) → text_heading.now ≡ heading text → IsMapFault text map.now fault) }
+    ensures fault { IfErr result (λ fault. (text : List ℕ) → text_heading.now ≡ map_heading text → IsMapFault text map.now fault) }
 {
     let Some((first, behind)) = next_line(map) else {
         return Err(MapFault::Line { line: 1 });

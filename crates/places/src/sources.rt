@@ -1,7 +1,7 @@
 //! The source that words of a map name.
 
 ghost use Rattle.std.specs.Prelude.{◌≡◌, ◌≤◌, length, option_copied};
-ghost use Rattle.places.specs.Sources.{is_name, is_source, last_digits, source_of};
+ghost use Rattle.places.specs.Sources.{is_source_name, is_source, last_digits, source_of};
 
 /// How many digits the bytes end with.
 fn last_digits(bytes: &[u8]) -> usize
@@ -17,7 +17,7 @@ fn last_digits(bytes: &[u8]) -> usize
 
 /// Whether the bytes are a name and a colon. A name has no quotes.
 fn is_name(bytes: &[u8]) -> bool
-    ensures { result ≡ is_name bytes.now }
+    ensures { result ≡ is_source_name bytes.now }
 {
     bytes.len() > 1 && bytes.ends_with(b":") && !bytes.contains(&b'"')
 }

@@ -3,7 +3,7 @@
 ghost use Rattle.std.specs.Prelude.{◌≡◌, ◌++◌, IfOk, List, OnOk, ℕ, option_copied};
 ghost use Rattle.std.specs.List.{flat_map};
 ghost use Rattle.places.specs.Maps.{AreFrom};
-ghost use Rattle.places.specs.Woven.{HasPlaces, IsAtSource, IsNamed, IsSaid, IsTold, IsWoven, closing, drawn_byte, is_in_place, marker, opening, place_text, plain_byte, quoted_byte, shown, source_text};
+ghost use Rattle.places.specs.Woven.{HasPlaces, IsAtSource, IsNamedLine, IsSaid, IsToldOfWords, IsWoven, closing, drawn_byte, is_in_place, marker, place_opening, place_text, plain_byte, quoted_byte, shown, source_text};
 
 use crate::map::Places;
 use crate::marks::{around, digits_of};
@@ -86,7 +86,7 @@ fn put_words(out: &mut Vec<u8>, form: Form, words: &[u8]) -> Result<(), AllocErr
 /// What a text of this form tells of the words of a map: the call and its place, and in an object
 /// its callers too.
 fn told_of<'a>(form: Form, words: &'a [u8]) -> &'a [u8]
-    ensures { IsTold form words.now result.now }
+    ensures { IsToldOfWords form words.now result.now }
 {
     match form {
         Form::Object => words,
@@ -107,7 +107,7 @@ fn told_of<'a>(form: Form, words: &'a [u8]) -> &'a [u8]
 
 /// What stands before the words of a place.
 fn opening(form: Form) -> &'static [u8]
-    ensures { result.now ≡ opening form }
+    ensures { result.now ≡ place_opening form }
 {
     match form {
         Form::Object => b",\"place\":\"",
@@ -212,7 +212,7 @@ fn put_named(
     places: &Places<'_>,
 ) -> Result<(), AllocError>
     ensures { OnOk result ((map : List ℕ) → AreFrom map places.now → (named : List ℕ)
-        × IsNamed form map digits.now named × (out.new.items ≡ out.old.items ++ named)) }
+        × IsNamedLine form map digits.now named × (out.new.items ≡ out.old.items ++ named)) }
 {
     if is_in_place(form) {
         put_in_place(out, digits, places)

@@ -9,7 +9,7 @@ use Rattle.clauses.specs.Clauses.{Literal, Conjunction}
 use Rattle.refutations.specs.declared.tree.Node.{Node}
 use Rattle.refutations.specs.BinaryTrees.{Tree, preorder}
 use Rattle.refutations.specs.Derivations.{clauses_before, clause_numbered}
-use Rattle.refutations.specs.Proofs.{ProofLine, is_number, is_tree, are_numbered}
+use Rattle.refutations.specs.Proofs.{ProofLine, is_proof_number, is_tree, are_numbered}
 use Rattle.refutations.specs.Refutations.{AreDerived, Accepts}
 use Rattle.refutations.specs.Trees.{Refutes}
 use Rattle.prooflog.specs.declared.refutation.Version.TheVariants.{One}
@@ -17,13 +17,13 @@ use Rattle.prooflog.specs.Refutations.{ClaimedRefutation, IsRefutation, is_line_
 use Rattle.prooflog.proofs.TreeDepths.{depths_are}
 use Rattle.trees.specs.declared.tree.NodeKind.TheVariants.{Leaf}
 use Rattle.trees.specs.Laws.{AreLeavesRefuted}
-use Rattle.trees.specs.Trees.{TreeNode, TreeState, IsGrown, IsBelow, AreLeavesNumbered, path_at}
+use Rattle.trees.specs.Trees.{TreeNode, TreeState, IsGrownTree, IsBelow, AreLeavesNumbered, path_at}
 use Rattle.trees.proofs.Splits.{kind_within, closed_refute, splits_sound}
 use Rattle.pool.specs.Evidence.{IsTreeOf}
-use Rattle.pool.specs.States.{PoolState, IsSound, IsOpen}
+use Rattle.pool.specs.States.{PoolState, IsSoundPool, IsOpenLeaf}
 use Rattle.pool.proofs.Sizes.{few_nodes, shallow_below}
 
-number_named : (clauses : List (List Literal)) (n : ℕ) (clause : List Literal) → length clauses ≤ 2147483647 → clause_numbered clauses n ≡ Some clause → is_number n ≡ true
+number_named : (clauses : List (List Literal)) (n : ℕ) (clause : List Literal) → length clauses ≤ 2147483647 → clause_numbered clauses n ≡ Some clause → is_proof_number n ≡ true
 number_named clauses zero clause few e = absurd (let told : ◌≡◌ {A = Option (List Literal)} None (Some clause) = e in cc)
 number_named clauses (suc place) clause few e =
     let high = slice_get_within clauses place clause e in
@@ -34,7 +34,7 @@ leaves_numbered f log nodes numbers few_clauses few_lines refuted place is =
     let r = refuted place is in
     number_named (clauses_before f log) (get_or numbers place 0) r.clause (omega (arith, few_clauses, few_lines, length-append f.clauses (map (λ (l : ProofLine). l.literals) log), length-map log (λ (l : ProofLine). l.literals))) r.named
 
-pub within_limits : (state : TreeState) (clauses : ℕ) (log : List ProofLine) (nodes : List Node) (numbers : List ℕ) (tree : Tree) → IsGrown state → clauses ≤ 4000000 → length log ≤ 1000000 → IsTrue (list_all is_line_in_range log) → preorder tree ≡ nodes → IsBelow state.nodes numbers tree 0 → IsTrue (is_tree nodes) → IsTrue (are_numbered nodes) → IsRefutation (record { version = One; variables = state.variables; clauses = clauses; lines = log; nodes = nodes })
+pub within_limits : (state : TreeState) (clauses : ℕ) (log : List ProofLine) (nodes : List Node) (numbers : List ℕ) (tree : Tree) → IsGrownTree state → clauses ≤ 4000000 → length log ≤ 1000000 → IsTrue (list_all is_line_in_range log) → preorder tree ≡ nodes → IsBelow state.nodes numbers tree 0 → IsTrue (is_tree nodes) → IsTrue (are_numbered nodes) → IsRefutation (record { version = One; variables = state.variables; clauses = clauses; lines = log; nodes = nodes })
 within_limits state clauses log nodes numbers tree grown few_clauses few_lines in_range are below tree_is numbered =
     let root : 0 ≡ length (path_at state.nodes 0) = sym (ap length (splits_sound state.variables state.nodes grown.grows).0) in (
       record {
@@ -51,7 +51,7 @@ within_limits state clauses log nodes numbers tree grown few_clauses few_lines i
       },
     )
 
-pub accepts : (f : Conjunction) (log : List ProofLine) (state : TreeState) (numbers : List ℕ) (nodes : List Node) (tree : Tree) → state.variables ≡ f.variables → IsGrown state → AreDerived f log → AreLeavesRefuted state.nodes (clauses_before f log) numbers → preorder tree ≡ nodes → IsBelow state.nodes numbers tree 0 → Accepts f log nodes
+pub accepts : (f : Conjunction) (log : List ProofLine) (state : TreeState) (numbers : List ℕ) (nodes : List Node) (tree : Tree) → state.variables ≡ f.variables → IsGrownTree state → AreDerived f log → AreLeavesRefuted state.nodes (clauses_before f log) numbers → preorder tree ≡ nodes → IsBelow state.nodes numbers tree 0 → Accepts f log nodes
 accepts f log state numbers nodes tree same grown derived refuted are below =
     record {
       lines_derived = derived;
@@ -59,7 +59,7 @@ accepts f log state numbers nodes tree same grown derived refuted are below =
     }
 
 -- where no leaf is open, each is refuted
-pub all_refuted : (h : PoolState) → IsSound h → ((leaf : ℕ) → IsOpen h leaf → ⊥) → AreLeavesRefuted h.tree.nodes (clauses_before h.formula h.log) h.closed
+pub all_refuted : (h : PoolState) → IsSoundPool h → ((leaf : ℕ) → IsOpenLeaf h leaf → ⊥) → AreLeavesRefuted h.tree.nodes (clauses_before h.formula h.log) h.closed
 all_refuted h s none place is =
     let low = kind_within h.tree.nodes place Leaf is in
     let number = get_or h.closed place 0 in
@@ -76,7 +76,7 @@ one_more_copied log lines more place line copy at same so_far is =
     ∙ sym (take_more log place line low)
 
 -- the same for counts and lines that are these
-pub within_limits_of : (state : TreeState) (variables clauses : ℕ) (log lines : List ProofLine) (nodes : List Node) → variables ≡ state.variables → lines ≡ log → IsGrown state → clauses ≤ 4000000 → length log ≤ 1000000 → IsTrue (list_all is_line_in_range log) → (numbers : List ℕ) → (tree : Tree) × (preorder tree ≡ nodes) × IsBelow state.nodes numbers tree 0 → IsTrue (is_tree nodes) → IsTrue (are_numbered nodes) → IsRefutation (record { version = One; variables = variables; clauses = clauses; lines = lines; nodes = nodes })
+pub within_limits_of : (state : TreeState) (variables clauses : ℕ) (log lines : List ProofLine) (nodes : List Node) → variables ≡ state.variables → lines ≡ log → IsGrownTree state → clauses ≤ 4000000 → length log ≤ 1000000 → IsTrue (list_all is_line_in_range log) → (numbers : List ℕ) → (tree : Tree) × (preorder tree ≡ nodes) × IsBelow state.nodes numbers tree 0 → IsTrue (is_tree nodes) → IsTrue (are_numbered nodes) → IsRefutation (record { version = One; variables = variables; clauses = clauses; lines = lines; nodes = nodes })
 within_limits_of state variables clauses log lines nodes one two grown few_clauses few_lines in_range numbers below tree_is numbered =
     subst (λ (v : ℕ). IsRefutation (record { version = One; variables = v; clauses = clauses; lines = lines; nodes = nodes })) (sym one)
     (subst (λ (ls : List ProofLine). IsRefutation (record { version = One; variables = state.variables; clauses = clauses; lines = ls; nodes = nodes })) (sym two)
@@ -86,7 +86,7 @@ within_limits_of state variables clauses log lines nodes one two grown few_claus
 pub tree_as : (nodes : List TreeNode) (numbers : List ℕ) (made claimed : List Node) → claimed ≡ made → IsTreeOf nodes numbers made → IsTreeOf nodes numbers claimed
 tree_as nodes numbers made claimed is tree = subst (IsTreeOf nodes numbers) (sym is) tree
 
-pub accepts_claim : (f : Conjunction) (log : List ProofLine) (state : TreeState) (numbers : List ℕ) (claim : ClaimedRefutation) (nodes : List Node) → claim.lines ≡ log → claim.nodes ≡ nodes → state.variables ≡ f.variables → IsGrown state → AreDerived f log → AreLeavesRefuted state.nodes (clauses_before f log) numbers → (tree : Tree) × (preorder tree ≡ nodes) × IsBelow state.nodes numbers tree 0 → Accepts f claim.lines claim.nodes
+pub accepts_claim : (f : Conjunction) (log : List ProofLine) (state : TreeState) (numbers : List ℕ) (claim : ClaimedRefutation) (nodes : List Node) → claim.lines ≡ log → claim.nodes ≡ nodes → state.variables ≡ f.variables → IsGrownTree state → AreDerived f log → AreLeavesRefuted state.nodes (clauses_before f log) numbers → (tree : Tree) × (preorder tree ≡ nodes) × IsBelow state.nodes numbers tree 0 → Accepts f claim.lines claim.nodes
 accepts_claim f log state numbers claim nodes one two same grown derived refuted below =
     subst (λ (ls : List ProofLine). Accepts f ls claim.nodes) (sym one)
     (subst (λ (ns : List Node). Accepts f log ns) (sym two) (accepts f log state numbers nodes below.0 same grown derived refuted below.1 below.2))

@@ -18,7 +18,7 @@ use Rattle.pool.specs.declared.entry.SplitFault.TheVariants as split
 use Rattle.pool.specs.declared.entry.FoundFault.TheVariants as found
 use Rattle.pool.specs.Calls.{wants_memory, after_call}
 use Rattle.pool.specs.Replies.{resolved, resolved_lines, DeriveAfter, FailsAt}
-use Rattle.pool.specs.States.{PoolState, PoolWithHistory, noted, next_number, IsReply, IsStep, publish_item, IsPublished, fetch_item, IsFetched, found_item, IsFound}
+use Rattle.pool.specs.States.{PoolState, PoolWithHistory, noted, next_number, IsReply, IsStep, publish_item, IsPublished, fetch_item, IsFetched, found_item, IsFoundReply}
 
 answered : (h : PoolState) (operation : Operation) (lines : List ProofLine) (steps : List Step) → IsReply h operation lines steps → wants_memory operation ≡ false
 answered h (Publish count (Err publish.Memory)) lines steps is = absurd is
@@ -45,6 +45,6 @@ pub fetch_step : (h : PoolState) (worker : ℕ) (from : ℕ) (reply : Result (Li
 fetch_step h worker from (Ok lines) answered is = (is, refl)
 fetch_step h worker from (Err fault) answered is = (is, λ e. answered (ap Err e))
 
-pub found_step : (h : PoolState) (worker : ℕ) (steps : List Step) (reply : Result (Unit {0}) FoundFault) → reply ≢ Err found.Memory → IsFound h steps reply → IsStep h (found_item worker steps reply)
+pub found_step : (h : PoolState) (worker : ℕ) (steps : List Step) (reply : Result (Unit {0}) FoundFault) → reply ≢ Err found.Memory → IsFoundReply h steps reply → IsStep h (found_item worker steps reply)
 found_step h worker steps (Ok _) answered is = (is, refl)
 found_step h worker steps (Err fault) answered is = λ e. answered (ap Err e)

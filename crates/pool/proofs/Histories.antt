@@ -12,7 +12,7 @@ use Rattle.trees.proofs.Written.{root_hangs}
 use Rattle.pool.specs.declared.entry.Operation.{Operation}
 use Rattle.pool.specs.declared.entry.Operation.TheVariants.{Publish, Close, Split, Found, Leave}
 use Rattle.pool.specs.Laws.{LeavesCover, ClosedPoolsRefute, RunsStaySound}
-use Rattle.pool.specs.States.{PoolState, IsSound, IsReply, after_operation, after}
+use Rattle.pool.specs.States.{PoolState, IsSoundPool, IsReply, after_operation, after_item}
 use Rattle.pool.proofs.Assembling.{accepts, all_refuted}
 use Rattle.pool.proofs.Soundness.{sound_with, sound_publish, sound_close, sound_split}
 
@@ -20,7 +20,7 @@ first_stuck : (program : MpiProgram) (schedule : Option (List Step)) (steps : Li
 first_stuck program None steps kept stuck = stuck
 first_stuck program (Some first) steps kept stuck = kept
 
-sound_after : (h : PoolState) (operation : Operation) (lines : List ProofLine) (steps : List Step) → IsSound h → IsReply h operation lines steps → IsSound (after_operation h operation lines steps)
+sound_after : (h : PoolState) (operation : Operation) (lines : List ProofLine) (steps : List Step) → IsSoundPool h → IsReply h operation lines steps → IsSoundPool (after_operation h operation lines steps)
 sound_after h (Publish count (Ok base)) lines steps s r = sound_publish h lines _ refl s r.2 (omega (arith, r.0, r.3))
 sound_after h (Close leaf number (Ok _)) lines steps s r = sound_close h leaf number s r.0.1
 sound_after h (Split leaf variable (Ok nodes)) lines steps s r = sound_split h leaf variable s r.0.0.0 r.0.3.0 r.0.3.1 r.0.2
@@ -40,7 +40,7 @@ sound_after h operation lines steps s r = s
 
 pub stay_sound : RunsStaySound
 stay_sound h [] s run = s
-stay_sound h (item ∷ items) s run = stay_sound (after h item) items (sound_after h item.entry.operation item.lines item.steps s run.0) run.1
+stay_sound h (item ∷ items) s run = stay_sound (after_item h item) items (sound_after h item.entry.operation item.lines item.steps s run.0) run.1
 
 pub cover : LeavesCover
 cover h a s = one_leaf_for_each h.tree.variables h.tree.nodes a s.grown.grows

@@ -9,7 +9,7 @@ use Rattle.pool.specs.declared.events.Reply.TheVariants as reply
 use Rattle.pool.specs.Laws.{RunsAreLegal}
 use Rattle.pool.specs.Calls.{after_call}
 use Rattle.pool.specs.Runs.{IsAnswered, after_event, AreAnswered}
-use Rattle.pool.specs.States.{PoolWithHistory, IsStep, IsRun, after_all, opening, noted, publish_item, fetch_item, close_item, split_item, found_item, leave_item}
+use Rattle.pool.specs.States.{PoolWithHistory, IsStep, AreLegalReplies, after_items, opening_pool, noted, publish_item, fetch_item, close_item, split_item, found_item, leave_item}
 use Rattle.pool.proofs.Calls.{step_noted, publish_step, fetch_step, found_step}
 
 noted_as : (k : PoolWithHistory) (item : LoggedCall) → IsStep k.held item → (found : LoggedCall) × IsStep k.held found × (after_call k item ≡ noted k found)
@@ -26,7 +26,7 @@ step_of k (Leave worker why) reply.Leave is = (leave_item worker why, tt, refl)
 step_of k event given is = absurd is
 
 history_from : (k : PoolWithHistory) (events : List Event) (pool : PoolWithHistory) (replies : List Reply) → AreAnswered k events pool replies
-    → (items : List LoggedCall) × IsRun k.held items × (pool.held ≡ after_all k.held items) × (pool.history ≡ k.history ++ map (λ (item : LoggedCall). item.entry) items)
+    → (items : List LoggedCall) × AreLegalReplies k.held items × (pool.held ≡ after_items k.held items) × (pool.history ≡ k.history ++ map (λ (item : LoggedCall). item.entry) items)
 history_from k [] pool [] e = ([], tt, ap (λ (p : PoolWithHistory). p.held) e, ap (λ (p : PoolWithHistory). p.history) e ∙ sym (append-nil k.history))
 history_from k [] pool (given ∷ replies) e = absurd e
 history_from k (event ∷ events) pool [] e = absurd e
@@ -34,8 +34,8 @@ history_from k (event ∷ events) pool (given ∷ replies) (here, further) =
     let step = step_of k event given here in
     let rest = history_from (after_event k event given) events pool replies further in (
       step.0 ∷ rest.0,
-      (step.1, subst (λ (p : PoolWithHistory). IsRun p.held rest.0) step.2 rest.1),
-      rest.2 ∙ ap (λ (p : PoolWithHistory). after_all p.held rest.0) step.2,
+      (step.1, subst (λ (p : PoolWithHistory). AreLegalReplies p.held rest.0) step.2 rest.1),
+      rest.2 ∙ ap (λ (p : PoolWithHistory). after_items p.held rest.0) step.2,
       rest.3
           ∙ ap (λ (p : PoolWithHistory). p.history ++ map (λ (item : LoggedCall). item.entry) rest.0) step.2
           ∙ append_assoc k.history (step.0.entry ∷ []) (map (λ (item : LoggedCall). item.entry) rest.0),
@@ -43,5 +43,5 @@ history_from k (event ∷ events) pool (given ∷ replies) (here, further) =
 
 pub legal : RunsAreLegal
 legal encoded tree events pool replies is =
-    let found_items = history_from (opening encoded tree) events pool replies is in
+    let found_items = history_from (opening_pool encoded tree) events pool replies is in
     (found_items.0, record { entries = found_items.3; run = found_items.1; ends = found_items.2 })

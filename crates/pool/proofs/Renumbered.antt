@@ -11,7 +11,7 @@ use Rattle.refutations.specs.declared.batch.BatchLine.{BatchLine}
 use Rattle.refutations.specs.declared.batch.Hint.{Hint}
 use Rattle.refutations.specs.declared.batch.Hint.TheVariants.{Known, Own}
 use Rattle.clauses.specs.Clauses.{Conjunction}
-use Rattle.refutations.specs.Proofs.{ProofLine, is_number, are_numbers}
+use Rattle.refutations.specs.Proofs.{ProofLine, is_proof_number, are_numbers}
 use Rattle.pool.specs.parts.Batches.{capped_move}
 use Rattle.pool.specs.Moves.{is_earlier, are_earlier, moved_hint, moved_line}
 use Rattle.pool.specs.Replies.{resolved_hint, resolved_lines, DeriveAfter}
@@ -58,7 +58,7 @@ derived_hold f log lines few derive =
     (omega (arith, length-take (length log + i) (log ++ lines), length-append log lines, low, few))
     (derive (length log + i) (get_or lines i d) (omega arith) (omega (arith, low)) found))
 
-capped_same : (old base number : ℕ) → is_number (moved_hint old base number) ≡ true → capped_move old base number ≡ moved_hint old base number
+capped_same : (old base number : ℕ) → is_proof_number (moved_hint old base number) ≡ true → capped_move old base number ≡ moved_hint old base number
 capped_same old base number e =
     elim (cases_Bool (nat_lt number old)) [
       | inl below ↦ ap (λ (b : Bool). if b then number else min ((number - old) + base) 4294967295) below ∙ sym (ap (λ (b : Bool). if b then number else (number - old) + base) below)
@@ -72,7 +72,7 @@ capped_same old base number e =
 pub moved_are_capped : (old base : ℕ) (hints : List ℕ) → are_numbers (map (moved_hint old base) hints) ≡ true → map (capped_move old base) hints ≡ map (moved_hint old base) hints
 moved_are_capped old base [] e = refl
 moved_are_capped old base (hint ∷ hints) e =
-    let both = and_parts (is_number (moved_hint old base hint)) (are_numbers (map (moved_hint old base) hints)) e in
+    let both = and_parts (is_proof_number (moved_hint old base hint)) (are_numbers (map (moved_hint old base) hints)) e in
     λ i. capped_same old base hint both.0 i ∷ moved_are_capped old base hints both.1 i
 
 -- the same of what may be there

@@ -11,14 +11,14 @@ use Rattle.refutations.specs.Derivations.{clauses_before}
 use Rattle.refutations.specs.Proofs.{ProofLine}
 use Rattle.refutations.specs.Trees.{branch, IsRefuted}
 use Rattle.trees.specs.declared.tree.NodeKind.TheVariants.{Leaf, Split}
-use Rattle.trees.specs.Trees.{TreeNode, TreeState, leaf_with, path_at, IsLeaf, split_at, HasNoRoom, IsGrown}
+use Rattle.trees.specs.Trees.{TreeNode, TreeState, leaf_with, path_at, IsLeaf, split_at, HasNoRoom, IsGrownTree}
 use Rattle.trees.proofs.Splits.{kind_within, length_after}
 use Rattle.trees.proofs.Grown.{state_grown_after}
 use Rattle.refutations.specs.declared.batch.BatchLine.{BatchLine}
 use Rattle.pool.specs.Counts.{open_count}
 use Rattle.pool.specs.declared.why.Why.{Why}
 use Rattle.pool.specs.Replies.{resolved, resolved_lines, DeriveAfter, most_lines}
-use Rattle.pool.specs.States.{PoolState, IsSound, IsClosedBy, next_number, opening, held_of}
+use Rattle.pool.specs.States.{PoolState, IsSoundPool, IsClosedBy, next_number, opening_pool, held_of}
 use Rattle.pool.proofs.Derivations.{derived_append, refuted_more}
 use Rattle.pool.proofs.OpenLeaves.{count_split, count_append}
 
@@ -45,7 +45,7 @@ not_zero clauses path zero r e = absurd (let told : ◌≡◌ {A = Option (List 
 not_zero clauses path (suc n) r e = absurd (omega arith)
 
 -- the reasons are all the same to it
-pub sound_with : (h : PoolState) (reasons : List Why) → IsSound h → IsSound (record h { reasons = reasons })
+pub sound_with : (h : PoolState) (reasons : List Why) → IsSoundPool h → IsSoundPool (record h { reasons = reasons })
 sound_with h reasons s =
     record {
       encoded = s.encoded;
@@ -58,7 +58,7 @@ sound_with h reasons s =
       stuck = s.stuck;
     }
 
-pub sound_close : (h : PoolState) (leaf number : ℕ) → IsSound h → IsClosedBy h leaf number → IsSound (record h { closed = set h.closed leaf number })
+pub sound_close : (h : PoolState) (leaf number : ℕ) → IsSoundPool h → IsClosedBy h leaf number → IsSoundPool (record h { closed = set h.closed leaf number })
 sound_close h leaf number s refuted =
     record {
       encoded = s.encoded;
@@ -74,9 +74,9 @@ sound_close h leaf number s refuted =
       stuck = s.stuck;
     }
 
-pub sound_publish : (h : PoolState) (lines log : List ProofLine) → log ≡ h.log ++ lines → IsSound h → DeriveAfter h.formula h.log lines → length h.log + length lines ≤ most_lines → IsSound (record h { log = log })
+pub sound_publish : (h : PoolState) (lines log : List ProofLine) → log ≡ h.log ++ lines → IsSoundPool h → DeriveAfter h.formula h.log lines → length h.log + length lines ≤ most_lines → IsSoundPool (record h { log = log })
 sound_publish h lines log is s derive few =
-    subst (λ (l : List ProofLine). IsSound (record h { log = l })) (sym is)
+    subst (λ (l : List ProofLine). IsSoundPool (record h { log = l })) (sym is)
     (record {
       encoded = s.encoded;
       few_lines = omega (arith, length-append h.log lines, few);
@@ -106,7 +106,7 @@ path_kept nodes place v k there low =
       | inr other ↦ ap (λ (n : TreeNode). n.path) (get_or-set_other nodes place k made d other)
     ]
 
-pub sound_split : (h : PoolState) (leaf v : ℕ) → IsSound h → IsLeaf h.tree.nodes leaf → 1 ≤ v → v ≤ h.formula.variables → (HasNoRoom h.tree.nodes leaf → ⊥) → IsSound (record h { tree = record h.tree { nodes = split_at h.tree.nodes leaf v }; closed = h.closed ++ 0 ∷ 0 ∷ [] })
+pub sound_split : (h : PoolState) (leaf v : ℕ) → IsSoundPool h → IsLeaf h.tree.nodes leaf → 1 ≤ v → v ≤ h.formula.variables → (HasNoRoom h.tree.nodes leaf → ⊥) → IsSoundPool (record h { tree = record h.tree { nodes = split_at h.tree.nodes leaf v }; closed = h.closed ++ 0 ∷ 0 ∷ [] })
 sound_split h leaf v s is low high room =
     let nodes = h.tree.nodes in
     let there = kind_within nodes leaf Leaf is in
@@ -128,10 +128,10 @@ sound_split h leaf v s is low high room =
     }
 
 -- the same for a tree and numbers that are these
-pub sound_split_to : (h : PoolState) (leaf v : ℕ) (tree : TreeState) (numbers : List ℕ) → tree ≡ record h.tree { nodes = split_at h.tree.nodes leaf v } → numbers ≡ h.closed ++ 0 ∷ 0 ∷ [] → IsSound (record h { tree = record h.tree { nodes = split_at h.tree.nodes leaf v }; closed = h.closed ++ 0 ∷ 0 ∷ [] }) → IsSound (record h { tree = tree; closed = numbers })
+pub sound_split_to : (h : PoolState) (leaf v : ℕ) (tree : TreeState) (numbers : List ℕ) → tree ≡ record h.tree { nodes = split_at h.tree.nodes leaf v } → numbers ≡ h.closed ++ 0 ∷ 0 ∷ [] → IsSoundPool (record h { tree = record h.tree { nodes = split_at h.tree.nodes leaf v }; closed = h.closed ++ 0 ∷ 0 ∷ [] }) → IsSoundPool (record h { tree = tree; closed = numbers })
 sound_split_to h leaf v tree numbers one two s =
-    subst (λ (t : TreeState). IsSound (record h { tree = t; closed = numbers })) (sym one)
-    (subst (λ (ns : List ℕ). IsSound (record h { tree = record h.tree { nodes = split_at h.tree.nodes leaf v }; closed = ns })) (sym two) s)
+    subst (λ (t : TreeState). IsSoundPool (record h { tree = t; closed = numbers })) (sym one)
+    (subst (λ (ns : List ℕ). IsSoundPool (record h { tree = record h.tree { nodes = split_at h.tree.nodes leaf v }; closed = ns })) (sym two) s)
 
 pub count_after_split : (nodes : List TreeNode) (closed : List ℕ) (leaf v : ℕ) → length closed ≡ length nodes → IsLeaf nodes leaf → slice_get closed leaf ≡ Some 0 → open_count (split_at nodes leaf v) (closed ++ 0 ∷ 0 ∷ []) ≡ open_count nodes closed + 1
 count_after_split nodes closed leaf v many is was =
@@ -148,7 +148,7 @@ count_after_split nodes closed leaf v many is was =
 
 -- ---- the opening
 
-pub sound_opening : (e : EncodedProgram) (tree : TreeState) → e.formula ≡ formula_of e.program → length (events e.program) ≤ 1024 → length e.formula.clauses ≤ 4000000 → IsGrown tree → tree.variables ≡ e.formula.variables → IsSound (opening e tree).held
+pub sound_opening : (e : EncodedProgram) (tree : TreeState) → e.formula ≡ formula_of e.program → length (events e.program) ≤ 1024 → length e.formula.clauses ≤ 4000000 → IsGrownTree tree → tree.variables ≡ e.formula.variables → IsSoundPool (opening_pool e tree).held
 sound_opening e tree formula few_events few_clauses grown variables =
     record {
       encoded = record { pairs_are = refl; formula_is = formula; few_events = few_events; few_clauses = few_clauses };
@@ -161,11 +161,11 @@ sound_opening e tree formula few_events few_clauses grown variables =
       stuck = tt;
     }
 
-pub sound_opened : (e : EncodedProgram) (tree : TreeState) (numbers : List ℕ) (log : List ProofLine) (reasons : List Why) → numbers ≡ replicate (length tree.nodes) 0 → log ≡ [] → reasons ≡ [] → IsSound (opening e tree).held → IsSound (held_of e tree numbers log None reasons)
+pub sound_opened : (e : EncodedProgram) (tree : TreeState) (numbers : List ℕ) (log : List ProofLine) (reasons : List Why) → numbers ≡ replicate (length tree.nodes) 0 → log ≡ [] → reasons ≡ [] → IsSoundPool (opening_pool e tree).held → IsSoundPool (held_of e tree numbers log None reasons)
 sound_opened e tree numbers log reasons one two three s =
-    subst (λ (ns : List ℕ). IsSound (held_of e tree ns log None reasons)) (sym one)
-    (subst (λ (ls : List ProofLine). IsSound (held_of e tree (replicate (length tree.nodes) 0) ls None reasons)) (sym two)
-    (subst (λ (rs : List Why). IsSound (held_of e tree (replicate (length tree.nodes) 0) [] None rs)) (sym three) s))
+    subst (λ (ns : List ℕ). IsSoundPool (held_of e tree ns log None reasons)) (sym one)
+    (subst (λ (ls : List ProofLine). IsSoundPool (held_of e tree (replicate (length tree.nodes) 0) ls None reasons)) (sym two)
+    (subst (λ (rs : List Why). IsSoundPool (held_of e tree (replicate (length tree.nodes) 0) [] None rs)) (sym three) s))
 
 -- ---- what a batch is answered
 

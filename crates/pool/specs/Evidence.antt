@@ -9,7 +9,7 @@ use Rattle.prooflog.specs.Refutations.{ClaimedRefutation}
 use Rattle.prooflog.specs.declared.evidence.Evidence.{Evidence}
 use Rattle.prooflog.specs.declared.evidence.Evidence.TheVariants.{Schedule, Refutation}
 use Rattle.trees.specs.Trees.{TreeNode, IsBelow}
-use Rattle.pool.specs.States.{PoolState, IsOpen}
+use Rattle.pool.specs.States.{PoolState, IsOpenLeaf}
 
 -- the nodes are those of this tree in preorder, each leaf with the number of the clause that closes
 -- it
@@ -20,7 +20,7 @@ IsTreeOf nodes numbers claimed = (tree : Tree) × (preorder tree ≡ claimed) ×
 -- the formula; it may have lines that are not needed
 pub record IsRefutationOf (h : PoolState) (claim : ClaimedRefutation) : Type 0 where
   pub none_found : IsNone h.schedule
-  pub none_open : (leaf : ℕ) → IsOpen h leaf → ⊥
+  pub none_open : (leaf : ℕ) → IsOpenLeaf h leaf → ⊥
   pub version : claim.version ≡ One
   pub variables : claim.variables ≡ h.formula.variables
   pub clauses : claim.clauses ≡ length h.formula.clauses
@@ -34,5 +34,5 @@ IsAssembled h (Schedule steps) = (h.schedule ≡ Some steps) × IsStuckRun h.pro
 IsAssembled h (Refutation claim) = IsRefutationOf h claim
 
 -- nothing was found, and some leaf is open
-abbrev pub IsUndecided : PoolState → Type 0
-IsUndecided h = IsNone h.schedule × (leaf : ℕ) × IsOpen h leaf
+abbrev pub IsUndecidedPool : PoolState → Type 0
+IsUndecidedPool h = IsNone h.schedule × (leaf : ℕ) × IsOpenLeaf h leaf

@@ -9,7 +9,7 @@ use Rattle.refutations.specs.Proofs.{ProofLine}
 use Rattle.pool.specs.declared.entry.LoggedCall.{LoggedCall}
 use Rattle.pool.specs.Growth.{Tells}
 use Rattle.pool.specs.Replies.{resolved_lines, DeriveAfter}
-use Rattle.pool.specs.States.{PoolState, IsRun, after_all}
+use Rattle.pool.specs.States.{PoolState, AreLegalReplies, after_items}
 
 -- the hint names one of the batch's own lines, or a clause with a smaller number than its first
 -- line
@@ -50,5 +50,5 @@ BatchesMove =
 -- after a run of calls each line that one of them published or was told stands in the log
 abbrev pub ToldStands : Type 0
 ToldStands =
-    (h : PoolState) (items : List LoggedCall) (one : LoggedCall) (i place : ℕ) (line : ProofLine) → IsRun h items → slice_get items i ≡ Some one → Tells h.formula one place line
-    → slice_get (after_all h items).log place ≡ Some line
+    (h : PoolState) (items : List LoggedCall) (one : LoggedCall) (i place : ℕ) (line : ProofLine) → AreLegalReplies h items → slice_get items i ≡ Some one → Tells h.formula one place line
+    → slice_get (after_items h items).log place ≡ Some line

@@ -12,7 +12,7 @@ use Rattle.pool.specs.declared.events.Event.TheVariants.{Publish, Fetch, Close, 
 use Rattle.pool.specs.declared.events.Reply.{Reply}
 use Rattle.pool.specs.declared.events.Reply.TheVariants as reply
 use Rattle.pool.specs.Calls.{published, fetched, closed, after_split, after_found}
-use Rattle.pool.specs.States.{PoolState, PoolWithHistory, opening, noted, leave_item, IsPublished, IsFetched, IsClosed, IsSplit, IsFound}
+use Rattle.pool.specs.States.{PoolState, PoolWithHistory, opening_pool, noted, leave_item, IsPublished, IsFetched, IsClosed, IsSplit, IsFoundReply}
 
 -- the call may be answered so at this point, and the answer is not want of memory
 abbrev pub IsAnswered : PoolState → Event → Reply → Type 0
@@ -20,7 +20,7 @@ IsAnswered h (Publish worker batch) (reply.Publish given) = IsPublished h batch.
 IsAnswered h (Fetch worker from) (reply.Fetch given) = IsFetched h from given × (given ≢ Err fetch.Memory)
 IsAnswered h (Close worker leaf number) (reply.Close given) = IsClosed h leaf number given × (given ≢ Err close.Memory)
 IsAnswered h (Split worker leaf variable) (reply.Split given) = IsSplit h leaf variable given × (given ≢ Err split.Memory)
-IsAnswered h (Found worker steps) (reply.Found given) = IsFound h steps.items given × (given ≢ Err found.Memory)
+IsAnswered h (Found worker steps) (reply.Found given) = IsFoundReply h steps.items given × (given ≢ Err found.Memory)
 IsAnswered h (Leave worker why) reply.Leave = Unit {0}
 IsAnswered h event given = ⊥
 
@@ -44,4 +44,4 @@ AreAnswered k (event ∷ events) pool (given ∷ replies) = IsAnswered k.held ev
 
 -- the same from the opening pool on
 abbrev pub IsPoolRun : EncodedProgram → TreeState → List Event → PoolWithHistory → List Reply → Type 0
-IsPoolRun encoded tree events pool replies = AreAnswered (opening encoded tree) events pool replies
+IsPoolRun encoded tree events pool replies = AreAnswered (opening_pool encoded tree) events pool replies

@@ -10,7 +10,7 @@ use Rattle.refutations.specs.Derivations.{clauses_before}
 use Rattle.refutations.specs.Proofs.{ProofLine}
 use Rattle.refutations.specs.Refutations.{AreDerived}
 use Rattle.refutations.specs.Trees.{IsRefuted}
-use Rattle.trees.specs.Trees.{TreeState, IsGrown, IsLeaf, HasNoRoom, path_at, split_at}
+use Rattle.trees.specs.Trees.{TreeState, IsGrownTree, IsLeaf, HasNoRoom, path_at, split_at}
 use Rattle.refutations.specs.declared.batch.BatchLine.{BatchLine}
 use Rattle.pool.specs.declared.entry.Operation.{Operation}
 use Rattle.pool.specs.declared.entry.Operation.TheVariants.{Publish, Fetch, Close, Split, Found, Leave}
@@ -58,31 +58,31 @@ held_of encoded tree closed log schedule reasons = record {
 }
 
 -- all leaves of the tree are open, and there is nothing else
-abbrev pub opening : EncodedProgram → TreeState → PoolWithHistory
-opening encoded tree = record { held = held_of encoded tree (replicate (length tree.nodes) 0) [] None []; history = []; places = 0 }
+abbrev pub opening_pool : EncodedProgram → TreeState → PoolWithHistory
+opening_pool encoded tree = record { held = held_of encoded tree (replicate (length tree.nodes) 0) [] None []; history = []; places = 0 }
 
 -- the number of the next line: the formula's clauses are numbered from 1, and the lines after them
 abbrev pub next_number : PoolState → ℕ
 next_number h = length h.formula.clauses + length h.log + 1
 
 -- a leaf of the tree that no clause closes
-abbrev pub IsOpen : PoolState → ℕ → Type 0
-IsOpen h leaf = IsLeaf h.tree.nodes leaf × (slice_get h.closed leaf ≡ Some 0)
+abbrev pub IsOpenLeaf : PoolState → ℕ → Type 0
+IsOpenLeaf h leaf = IsLeaf h.tree.nodes leaf × (slice_get h.closed leaf ≡ Some 0)
 
 -- the clause or line of this number is false wherever the node's path is true
 abbrev pub IsClosedBy : PoolState → ℕ → ℕ → Type 0
 IsClosedBy h leaf number = IsRefuted (clauses_before h.formula h.log) (path_at h.tree.nodes leaf) number
 
-abbrev pub IsVariable : PoolState → ℕ → Type 0
-IsVariable h variable = (1 ≤ variable) × (variable ≤ h.formula.variables)
+abbrev pub IsFormulaVariable : PoolState → ℕ → Type 0
+IsFormulaVariable h variable = (1 ≤ variable) × (variable ≤ h.formula.variables)
 
 -- Each line derives from what stands before it, each closed node is refuted by its clause, and a
 -- kept schedule is a stuck run. The tree is over the formula's variables, and the formula is the
 -- program's.
-pub record IsSound (h : PoolState) : Type 0 where
+pub record IsSoundPool (h : PoolState) : Type 0 where
   pub encoded : IsEncoded (record { program = h.program; pairs = pairs_of h.program; formula = h.formula })
   pub few_lines : length h.log ≤ most_lines
-  pub grown : IsGrown h.tree
+  pub grown : IsGrownTree h.tree
   pub variables : h.tree.variables ≡ h.formula.variables
   pub many : length h.closed ≡ length h.tree.nodes
   pub derived : AreDerived h.formula h.log
@@ -106,11 +106,11 @@ after_operation h (Found count (Ok _)) lines steps = record h { schedule = Some 
 after_operation h (Leave why) lines steps = record h { reasons = with_reason h.reasons why }
 after_operation h operation lines steps = h
 
-abbrev pub after : PoolState → LoggedCall → PoolState
-after h item = after_operation h item.entry.operation item.lines item.steps
+abbrev pub after_item : PoolState → LoggedCall → PoolState
+after_item h item = after_operation h item.entry.operation item.lines item.steps
 
 abbrev pub noted : PoolWithHistory → LoggedCall → PoolWithHistory
-noted k item = record { held = after k.held item; history = k.history ++ item.entry ∷ []; places = k.places }
+noted k item = record { held = after_item k.held item; history = k.history ++ item.entry ∷ []; places = k.places }
 
 -- so many places are kept
 abbrev pub with_places : PoolWithHistory → ℕ → PoolWithHistory
@@ -132,24 +132,24 @@ IsFetched h from (Err fetch.Memory) = Unit {0}
 IsFetched h from (Err fetch.PastEnd) = length h.log < from
 
 abbrev pub IsClosed : PoolState → ℕ → ℕ → Result (Unit {0}) CloseFault → Type 0
-IsClosed h leaf number (Ok _) = IsOpen h leaf × IsClosedBy h leaf number
+IsClosed h leaf number (Ok _) = IsOpenLeaf h leaf × IsClosedBy h leaf number
 IsClosed h leaf number (Err close.Memory) = Unit {0}
-IsClosed h leaf number (Err close.NotOpen) = IsOpen h leaf → ⊥
-IsClosed h leaf number (Err close.NotRefuted) = IsOpen h leaf × (IsClosedBy h leaf number → ⊥)
+IsClosed h leaf number (Err close.NotOpen) = IsOpenLeaf h leaf → ⊥
+IsClosed h leaf number (Err close.NotRefuted) = IsOpenLeaf h leaf × (IsClosedBy h leaf number → ⊥)
 
 abbrev pub IsSplit : PoolState → ℕ → ℕ → Result (ℕ × ℕ) SplitFault → Type 0
 IsSplit h leaf variable (Ok nodes) =
-    IsOpen h leaf × (nodes ≡ (length h.tree.nodes, length h.tree.nodes + 1)) × (HasNoRoom h.tree.nodes leaf → ⊥) × IsVariable h variable
+    IsOpenLeaf h leaf × (nodes ≡ (length h.tree.nodes, length h.tree.nodes + 1)) × (HasNoRoom h.tree.nodes leaf → ⊥) × IsFormulaVariable h variable
 IsSplit h leaf variable (Err split.Memory) = Unit {0}
-IsSplit h leaf variable (Err split.NotOpen) = IsOpen h leaf → ⊥
-IsSplit h leaf variable (Err split.Full) = IsOpen h leaf × HasNoRoom h.tree.nodes leaf
+IsSplit h leaf variable (Err split.NotOpen) = IsOpenLeaf h leaf → ⊥
+IsSplit h leaf variable (Err split.Full) = IsOpenLeaf h leaf × HasNoRoom h.tree.nodes leaf
 IsSplit h leaf variable (Err split.NoVariable) =
-    IsOpen h leaf × (HasNoRoom h.tree.nodes leaf → ⊥) × (IsVariable h variable → ⊥)
+    IsOpenLeaf h leaf × (HasNoRoom h.tree.nodes leaf → ⊥) × (IsFormulaVariable h variable → ⊥)
 
-abbrev pub IsFound : PoolState → List Step → Result (Unit {0}) FoundFault → Type 0
-IsFound h steps (Ok _) = IsStuckRun h.program steps
-IsFound h steps (Err found.Memory) = Unit {0}
-IsFound h steps (Err found.NotStuck) = IsStuckRun h.program steps → ⊥
+abbrev pub IsFoundReply : PoolState → List Step → Result (Unit {0}) FoundFault → Type 0
+IsFoundReply h steps (Ok _) = IsStuckRun h.program steps
+IsFoundReply h steps (Err found.Memory) = Unit {0}
+IsFoundReply h steps (Err found.NotStuck) = IsStuckRun h.program steps → ⊥
 
 -- a reply that the history may have to a call at this point, so not want of memory. What a refused
 -- batch or schedule was is not told by its entry
@@ -163,7 +163,7 @@ IsReply h (Fetch from (Ok count)) lines steps = IsFetched h from (Ok lines) × (
 IsReply h (Fetch from (Err fault)) lines steps = IsFetched h from (Err fault) × (fault ≢ fetch.Memory)
 IsReply h (Close leaf number reply) lines steps = IsClosed h leaf number reply × (reply ≢ Err close.Memory)
 IsReply h (Split leaf variable reply) lines steps = IsSplit h leaf variable reply × (reply ≢ Err split.Memory)
-IsReply h (Found count (Ok _)) lines steps = IsFound h steps (Ok tt) × (length steps ≡ count)
+IsReply h (Found count (Ok _)) lines steps = IsFoundReply h steps (Ok tt) × (length steps ≡ count)
 IsReply h (Found count (Err fault)) lines steps = fault ≢ found.Memory
 IsReply h (Leave why) lines steps = Unit {0}
 
@@ -171,20 +171,20 @@ abbrev pub IsStep : PoolState → LoggedCall → Type 0
 IsStep h item = IsReply h item.entry.operation item.lines item.steps
 
 -- the items' calls, in order, may be given these replies
-abbrev pub IsRun : PoolState → List LoggedCall → Type 0
-IsRun h [] = Unit {0}
-IsRun h (item ∷ items) = IsStep h item × IsRun (after h item) items
+abbrev pub AreLegalReplies : PoolState → List LoggedCall → Type 0
+AreLegalReplies h [] = Unit {0}
+AreLegalReplies h (item ∷ items) = IsStep h item × AreLegalReplies (after_item h item) items
 
-abbrev pub after_all : PoolState → List LoggedCall → PoolState
-after_all h [] = h
-after_all h (item ∷ items) = after_all (after h item) items
+abbrev pub after_items : PoolState → List LoggedCall → PoolState
+after_items h [] = h
+after_items h (item ∷ items) = after_items (after_item h item) items
 
 -- the items are the history with its lines and its schedules. Taken in order from the opening pool,
 -- they give just these replies and this pool
-pub record IsLegal (opening : PoolState) (items : List LoggedCall) (k : PoolWithHistory) : Type 0 where
+pub record IsLegal (opening_pool : PoolState) (items : List LoggedCall) (k : PoolWithHistory) : Type 0 where
   pub entries : k.history ≡ map (λ (item : LoggedCall). item.entry) items
-  pub run : IsRun opening items
-  pub ends : k.held ≡ after_all opening items
+  pub run : AreLegalReplies opening_pool items
+  pub ends : k.held ≡ after_items opening_pool items
 
 -- ---- the six calls, with their lines and schedules
 

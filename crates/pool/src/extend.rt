@@ -4,7 +4,7 @@ ghost use Rattle.std.specs.Prelude.{◌≡◌, ◌+◌, ◌++◌, ◌≤◌, IfE
 ghost use Rattle.refutations.specs.Derivations.{Derives};
 ghost use Rattle.refutations.specs.Proofs.{are_numbers};
 ghost use Rattle.pool.specs.Replies.{resolved, resolved_hint, resolved_lines, DeriveAfter};
-ghost use Rattle.pool.specs.parts.Batches.{capped_hint, IsStopped, IsExtended};
+ghost use Rattle.pool.specs.parts.Batches.{capped_hint, IsDerivationFault, IsExtended};
 ghost use Rattle.pool.specs.Moves.{AreOfBatch};
 
 use crate::derived::DerivedLines;
@@ -94,7 +94,7 @@ pub(crate) fn checked_lines(
     requires few { length formula.now.clauses + length log.now + length batch.now ≤ 2147483647 }
     ensures lines { IfOk result (λ lines. lines.items ≡ resolved_lines base batch.now) }
     ensures derive { IfOk result (λ _. DeriveAfter formula.now log.now (resolved_lines base batch.now)) }
-    ensures stopped { IfErr result (IsStopped formula.now log.now (resolved_lines base batch.now)) }
+    ensures stopped { IfErr result (IsDerivationFault formula.now log.now (resolved_lines base batch.now)) }
     ensures size { length known.new ≡ length known.old }
 {
     let mut lines = Vec::new(alloc);
@@ -132,7 +132,7 @@ fn lines_behind(
     requires lines { IfSome derived (λ d. AreOfBatch batch.now d) }
     ensures lines { IfOk result (λ lines. lines.items ≡ resolved_lines base batch.now) }
     ensures derive { IfOk result (λ _. DeriveAfter formula.now log.now (resolved_lines base batch.now)) }
-    ensures stopped { IfErr result (IsStopped formula.now log.now (resolved_lines base batch.now)) }
+    ensures stopped { IfErr result (IsDerivationFault formula.now log.now (resolved_lines base batch.now)) }
     ensures size { length known.new ≡ length known.old }
 {
     match derived {

@@ -6,7 +6,7 @@ ghost use Rattle.std.specs.Arc.{arc_value};
 ghost use Rattle.trees.specs.Trees.{HasNoRoom, IsLeaf, split_at};
 ghost use Rattle.pool.specs.Counts.{open_count};
 ghost use Rattle.pool.specs.Calls.{published, fetched, closed, after_split, after_found};
-ghost use Rattle.pool.specs.States.{opening, noted, with_places, next_number, leave_item, IsPublished, IsFetched, IsClosed, IsSplit, IsFound};
+ghost use Rattle.pool.specs.States.{opening_pool, noted, with_places, next_number, leave_item, IsPublished, IsFetched, IsClosed, IsSplit, IsFoundReply};
 ghost use Rattle.pool.specs.Moves.{AreOfBatch};
 ghost use Rattle.pool.specs.Replies.{resolved_lines, DeriveAfter};
 ghost use Rattle.semantics.specs.Machine.{IsStuckRun};
@@ -48,7 +48,7 @@ impl Model for Pool {
     ghost use Rattle.std.specs.Option.{option_map};
     ghost use Rattle.std.specs.Arc.{arc_value};
     ghost use Rattle.pool.specs.Counts.{open_count};
-    ghost use Rattle.pool.specs.States.{PoolWithHistory, IsSound, held_of};
+    ghost use Rattle.pool.specs.States.{PoolWithHistory, IsSoundPool, held_of};
 
     ghost Value = { PoolWithHistory };
 
@@ -60,7 +60,7 @@ impl Model for Pool {
     } };
 
     ghost invariant = { λ a.
-        IsSound (held_of (arc_value a.encoded) a.tree a.closed.items a.log
+        IsSoundPool (held_of (arc_value a.encoded) a.tree a.closed.items a.log
         (option_map (λ s. s.items) a.schedule) a.ledger.reasons)
         × (a.open_leaves ≡ open_count a.tree.nodes a.closed.items)
         × (length a.known ≡ (arc_value a.encoded).formula.variables + 1) };
@@ -150,7 +150,7 @@ impl Pool {
     /// over as many variables as the formula has.
     pub fn new(alloc: Global, encoded: Encoded, tree: Tree) -> Result<Pool, AllocError>
         requires { tree.variables ≡ encoded.formula.variables }
-        ensures { IfOk result (λ pool. pool ≡ opening encoded tree) }
+        ensures { IfOk result (λ pool. pool ≡ opening_pool encoded tree) }
     {
         let (closed, known) = tables(alloc, encoded.formula(), &tree)?;
         match Arc::new(alloc, encoded) {
@@ -170,7 +170,7 @@ impl Pool {
         requires variables { tree.variables ≡ (arc_value encoded).formula.variables }
         requires closed { closed.items ≡ replicate (length tree.nodes) 0 }
         requires known { length known ≡ (arc_value encoded).formula.variables + 1 }
-        ensures { result ≡ opening (arc_value encoded) tree }
+        ensures { result ≡ opening_pool (arc_value encoded) tree }
     {
         let _program = encoded.program();
         let _formula = encoded.formula();
@@ -369,7 +369,7 @@ impl Pool {
     /// Keeps the first schedule that is a run of the program that ends stuck; later ones change the
     /// history alone.
     pub fn found(&mut self, alloc: Global, worker: u32, steps: Vec<Step>) -> Result<(), FoundFault>
-        ensures reply { IsFound self.old.held steps.items result }
+        ensures reply { IsFoundReply self.old.held steps.items result }
         ensures pool { self.new ≡ after_found self.old worker steps.items result }
     {
         if self.ledger.reserve().is_err() {

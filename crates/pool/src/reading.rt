@@ -5,10 +5,10 @@ ghost use Rattle.std.specs.Arc.{arc_value};
 ghost use Rattle.trees.specs.Trees.{HasNoRoom, path_at};
 ghost use Rattle.prooflog.specs.declared.refutation.Version.TheVariants.{One};
 ghost use Rattle.pool.specs.Counts.{open_count};
-ghost use Rattle.pool.specs.Evidence.{IsTreeOf, IsAssembled, IsUndecided};
+ghost use Rattle.pool.specs.Evidence.{IsTreeOf, IsAssembled, IsUndecidedPool};
 ghost use Rattle.pool.specs.Reasons.{IsSmallest};
 ghost use Rattle.pool.specs.Refusals.{IsSplitFault};
-ghost use Rattle.pool.specs.States.{next_number, IsOpen, IsClosedBy, IsVariable, IsSound};
+ghost use Rattle.pool.specs.States.{next_number, IsOpenLeaf, IsClosedBy, IsFormulaVariable, IsSoundPool};
 ghost use Rattle.refutations.specs.Refutations.{Accepts};
 
 use crate::assembly::{AssembleFault, lines_of, refutation_by, refutation_of, schedule_of_run};
@@ -71,13 +71,13 @@ impl Pool {
     /// The calls so far, in order, but for those that were answered with want of memory.
     pub fn history(&self) -> &[Entry]
         ensures calls { result.now ≡ self.now.history }
-        ensures sound { IsSound self.now.held }
+        ensures sound { IsSoundPool self.now.held }
     {
         self.ledger.history()
     }
 
     pub(crate) fn is_open(&self, leaf: u32) -> bool
-        ensures open { IsTrue result ↔ IsOpen self.now.held leaf }
+        ensures open { IsTrue result ↔ IsOpenLeaf self.now.held leaf }
         ensures within { IsTrue result → leaf < length self.now.held.tree.nodes }
     {
         match self.closed.get(leaf as usize) {
@@ -104,7 +104,7 @@ impl Pool {
     }
 
     pub(crate) fn is_variable(&self, variable: u32) -> bool
-        ensures { IsTrue result ↔ IsVariable self.now.held variable }
+        ensures { IsTrue result ↔ IsFormulaVariable self.now.held variable }
     {
         1 <= variable && variable <= self.encoded.formula().variables()
     }
@@ -148,8 +148,8 @@ impl Pool {
     /// The literals from an open leaf up to the root.
     pub fn path(&self, alloc: Global, leaf: u32) -> Result<Vec<Lit>, PathFault>
         ensures path { IfOk result (λ path. path.items ≡ path_at self.now.held.tree.nodes leaf) }
-        ensures open { IfOk result (λ _. IsOpen self.now.held leaf) }
-        ensures not_open { result ≡ Err PathFault.NotOpen ↔ (IsOpen self.now.held leaf → ⊥) }
+        ensures open { IfOk result (λ _. IsOpenLeaf self.now.held leaf) }
+        ensures not_open { result ≡ Err PathFault.NotOpen ↔ (IsOpenLeaf self.now.held leaf → ⊥) }
     {
         if !self.is_open(leaf) {
             return Err(PathFault::NotOpen);
@@ -165,7 +165,7 @@ impl Pool {
     /// closed.
     pub fn assemble(&self, alloc: Global) -> Result<Evidence, AssembleFault>
         ensures evidence { IfOk result (λ evidence. IsAssembled self.now.held evidence) }
-        ensures open { result ≡ Err AssembleFault.Open ↔ IsUndecided self.now.held }
+        ensures open { result ≡ Err AssembleFault.Open ↔ IsUndecidedPool self.now.held }
     {
         if let Some(steps) = &self.schedule {
             return match Vec::from_slice(alloc, steps) {
@@ -183,7 +183,7 @@ impl Pool {
     }
 
     fn refutation(&self, alloc: Global) -> Result<Refutation, AllocError>
-        requires { (leaf : ℕ) → IsOpen self.now.held leaf → ⊥ }
+        requires { (leaf : ℕ) → IsOpenLeaf self.now.held leaf → ⊥ }
         ensures version { IfOk result (λ claim. claim.version ≡ One) }
         ensures variables { IfOk result (λ claim. claim.variables ≡ self.now.held.formula.variables) }
         ensures clauses { IfOk result (λ claim. claim.clauses ≡ length self.now.held.formula.clauses) }
@@ -200,7 +200,7 @@ impl Pool {
     /// nobody else has them.
     pub fn into_evidence(self, alloc: Global) -> Result<Evidence, AssembleFault>
         ensures evidence { IfOk result (λ evidence. IsAssembled self.held evidence) }
-        ensures open { result ≡ Err AssembleFault.Open ↔ IsUndecided self.held }
+        ensures open { result ≡ Err AssembleFault.Open ↔ IsUndecidedPool self.held }
     {
         let Pool {
             encoded,

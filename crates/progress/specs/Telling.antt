@@ -53,9 +53,9 @@ Rises seconds [] = Unit {0}
 Rises seconds (moment ∷ later) = (seconds < moment.seconds) × Rises moment.seconds later
 
 -- the text is written, or a beginning of it where the output failed
-abbrev pub IsTold : Option (List ℕ) → Option (List ℕ) → List ℕ → Type 0
-IsTold told_old told_new text = Appends told_old told_new text ⊎ AppendsPart told_old told_new text
+abbrev pub AppendsAtMost : Option (List ℕ) → Option (List ℕ) → List ℕ → Type 0
+AppendsAtMost told_old told_new text = Appends told_old told_new text ⊎ AppendsPart told_old told_new text
 
 -- moments of a search, each with more whole seconds than the one before it, are told by their lines
 abbrev pub TellsProgress : Option (List ℕ) → Option (List ℕ) → Type 0
-TellsProgress told_old told_new = (moments : List Moment) × Rises 0 moments × IsTold told_old told_new (flat_map moment_line moments)
+TellsProgress told_old told_new = (moments : List Moment) × Rises 0 moments × AppendsAtMost told_old told_new (flat_map moment_line moments)

@@ -4,7 +4,7 @@ ghost use Rattle.std.specs.Prelude.{OnErr, OnOk};
 ghost use Rattle.std.specs.Io.KnownBytes.{Appends};
 ghost use Rattle.files.specs.Contents.{AppendsPart};
 ghost use Rattle.progress.specs.Telling.{TellsProgress, moment_line};
-ghost use Rattle.prover.specs.Answers.{Answers, FinishesIfUnknown};
+ghost use Rattle.prover.specs.Answers.{IsAnswer, FinishesIfUnknown};
 
 use crate::counts::Counts;
 use crate::moment::{Moment, line_of};
@@ -87,7 +87,7 @@ pub fn prove_telling<R: Threads + Wait + Clock + Sync, E: Write + Send>(
     options: Options,
     err: &mut E,
 ) -> Answer
-    ensures answers { Answers program.now result }
+    ensures answers { IsAnswer program.now result }
     ensures finishes { FinishesIfUnknown options.budget program.now result }
     ensures told { TellsProgress (E.contents err.old) (E.contents err.new) }
 {
@@ -98,7 +98,7 @@ pub fn prove_telling<R: Threads + Wait + Clock + Sync, E: Write + Send>(
             ensures { TellsProgress (E.contents err.entry.now) (E.contents err.exit.now) }
         { tell(rt, rt, alloc, &counts, err) },
         &mut ||
-            ensures { Answers program.entry.now result × FinishesIfUnknown options.budget program.entry.now result }
+            ensures { IsAnswer program.entry.now result × FinishesIfUnknown options.budget program.entry.now result }
         {
             let answer = prove(rt, alloc, program, options, &counts);
             counts.end();

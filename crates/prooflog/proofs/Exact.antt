@@ -23,7 +23,7 @@ use Rattle.prooflog.specs.declared.step.WrittenStep.{WrittenStep}
 use Rattle.prooflog.specs.Steps.{written, step_line, schedule_line}
 use Rattle.prooflog.specs.Refutations.{ClaimedRefutation, Item, item_line, items, a_node}
 use Rattle.prooflog.specs.Grammar.{Written, as_schedule, as_refutation, heading_line, refutation_line, written_lines, written_of, IsEvidenceText}
-use Rattle.prooflog.specs.Fault.{IsRanged, IsFew, CanGoOn, IsWhy, HasEvidenceFault}
+use Rattle.prooflog.specs.Fault.{IsRanged, IsFew, CanGoOnAsEvidence, IsWhy, HasEvidenceFault}
 use Rattle.prooflog.proofs.StepLines.{plain_step, step_line_injective, step_line_nonempty}
 use Rattle.prooflog.proofs.ProofWords.{plain_item, item_line_injective, item_line_nonempty}
 use Rattle.prooflog.proofs.Items.{cut_at_tree, same_nodes}
@@ -165,10 +165,10 @@ few : (bytes : List ℕ) (e : Evidence) (count : ℕ) → IsEvidenceText bytes e
 few bytes (Schedule ss) count t = omega (arith, t.limits.few, length-take (count - 2) (map written ss))
 few bytes (Refutation r) count t = small_front r.lines r.nodes (count - 2) (count - (3 + length r.lines)) t.limits.1
 
-no_first_fault : (bytes : List ℕ) (evidence : Evidence) (before : List (List ℕ)) (line : List ℕ) → IsEvidenceText bytes evidence → IsFirstFaultyLine CanGoOn bytes before line → ⊥
+no_first_fault : (bytes : List ℕ) (evidence : Evidence) (before : List (List ℕ)) (line : List ℕ) → IsEvidenceText bytes evidence → IsFirstFaultyLine CanGoOnAsEvidence bytes before line → ⊥
 no_first_fault bytes e before line t first =
-    let whole : CanGoOn (text_lines bytes) = (written_of e, (ranged bytes e t, few bytes e (length (text_lines bytes)) t), ([], sym (lines_of_text bytes e t) ∙ sym (append-nil (text_lines bytes)))) in
-    no_faulty_line CanGoOn bytes before line closed_go_on whole first
+    let whole : CanGoOnAsEvidence (text_lines bytes) = (written_of e, (ranged bytes e t, few bytes e (length (text_lines bytes)) t), ([], sym (lines_of_text bytes e t) ∙ sym (append-nil (text_lines bytes)))) in
+    no_faulty_line CanGoOnAsEvidence bytes before line closed_go_on whole first
 
 pub text_has_no_fault : (bytes : List ℕ) (evidence : Evidence) (fault : EvidenceFault) → IsEvidenceText bytes evidence → HasEvidenceFault bytes fault → fault ≡ Memory
 text_has_no_fault bytes evidence Memory t has = refl
@@ -194,7 +194,7 @@ one_why TooLarge TooLarge before line v w = refl
 
 -- a fault of a line
 abbrev OfLine : List ℕ → EvidenceFault → Type 0
-OfLine bytes fault = (before : List (List ℕ)) × (line : List ℕ) × IsFirstFaultyLine CanGoOn bytes before line × IsWhy fault before line
+OfLine bytes fault = (before : List (List ℕ)) × (line : List ℕ) × IsFirstFaultyLine CanGoOnAsEvidence bytes before line × IsWhy fault before line
 
 of_line : (bytes : List ℕ) (fault : EvidenceFault) → HasEvidenceFault bytes fault → fault ≢ Memory → OfLine bytes fault
 of_line bytes Memory has other = absurd (other refl)
@@ -204,7 +204,7 @@ of_line bytes TooLarge has other = has
 
 one_of_line : (bytes : List ℕ) (a b : EvidenceFault) → OfLine bytes a → OfLine bytes b → a ≡ b
 one_of_line bytes a b (x, l, f, v) (y, m, g, w) =
-    let same = same_line CanGoOn bytes x y l m closed_go_on f g in
+    let same = same_line CanGoOnAsEvidence bytes x y l m closed_go_on f g in
     let w' : IsWhy b x m = subst (λ (z : List (List ℕ)). IsWhy b z m) (sym same.0) w in
     one_why a b x l v (subst (λ (n : List ℕ). IsWhy b x n) (sym same.1) w')
 

@@ -11,9 +11,9 @@ use Rattle.refutations.specs.declared.tree.Node.{Node}
 use Rattle.refutations.specs.declared.tree.Node.TheVariants.{Split, Leaf}
 use Rattle.prooflog.specs.declared.fault.EvidenceFault.{EvidenceFault}
 use Rattle.prooflog.specs.declared.fault.EvidenceFault.TheVariants.{Memory, Syntax, Range, TooLarge}
-use Rattle.prooflog.specs.Refutations.{IsSmall, is_depth, depths}
+use Rattle.prooflog.specs.Refutations.{IsSmallRefutation, is_depth, depths}
 use Rattle.prooflog.specs.Grammar.{Written, as_schedule, as_refutation, written_lines}
-use Rattle.prooflog.specs.Fault.{IsShaped, IsRanged, IsFew, HasShape, IsInRange, CanGoOn, IsWhy, HasEvidenceFault}
+use Rattle.prooflog.specs.Fault.{IsShaped, IsRanged, IsFew, HasEvidenceShape, IsInEvidenceRange, CanGoOnAsEvidence, IsWhy, HasEvidenceFault}
 use Rattle.prooflog.specs.parts.Reading.{HasFaultAfter}
 
 -- ---- values in lines
@@ -45,13 +45,13 @@ pub ranged_shaped : (w : Written) → IsRanged w → IsShaped w
 ranged_shaped (as_schedule ss) ranged = tt
 ranged_shaped (as_refutation r) ranged = ranged.is_tree
 
-pub in_range_shape : (front : List (List ℕ)) → IsInRange front → HasShape front
+pub in_range_shape : (front : List (List ℕ)) → IsInEvidenceRange front → HasEvidenceShape front
 in_range_shape front (w, keeps, begins) = (w, ranged_shaped w keeps, begins)
 
-pub go_on_in_range : (front : List (List ℕ)) → CanGoOn front → IsInRange front
+pub go_on_in_range : (front : List (List ℕ)) → CanGoOnAsEvidence front → IsInEvidenceRange front
 go_on_in_range front (w, keeps, begins) = (w, keeps.0, begins)
 
-pub go_on_shape : (front : List (List ℕ)) → CanGoOn front → HasShape front
+pub go_on_shape : (front : List (List ℕ)) → CanGoOnAsEvidence front → HasEvidenceShape front
 go_on_shape front good = in_range_shape front (go_on_in_range front good)
 
 -- ---- what is small stays so at each front
@@ -75,14 +75,14 @@ shallow_take (d ∷ roots) (Leaf k ∷ nodes) (suc m) (suc n) le all =
 take_fewer : {A : Type 0} (xs : List A) (m n most : ℕ) → m ≤ n → length (take n xs) ≤ most → length (take m xs) ≤ most
 take_fewer xs m n most le few = omega (arith, few, length-take m xs, length-take n xs)
 
-pub small_take : (lines : List ProofLine) (nodes : List Node) (a b m n : ℕ) → a ≤ m → b ≤ n → IsSmall (take m lines) (take n nodes) → IsSmall (take a lines) (take b nodes)
+pub small_take : (lines : List ProofLine) (nodes : List Node) (a b m n : ℕ) → a ≤ m → b ≤ n → IsSmallRefutation (take m lines) (take n nodes) → IsSmallRefutation (take a lines) (take b nodes)
 small_take lines nodes a b m n le le' small = record {
   few_lines = take_fewer lines a m 1000000 le small.few_lines;
   few_nodes = take_fewer nodes b n 65536 le' small.few_nodes;
   shallow = shallow_take (0 ∷ []) nodes b n le' small.shallow;
 }
 
-pub small_front : (lines : List ProofLine) (nodes : List Node) (a b : ℕ) → IsSmall lines nodes → IsSmall (take a lines) (take b nodes)
+pub small_front : (lines : List ProofLine) (nodes : List Node) (a b : ℕ) → IsSmallRefutation lines nodes → IsSmallRefutation (take a lines) (take b nodes)
 small_front lines nodes a b small =
     let lines_whole : take (a + length lines) lines ≡ lines = take_all (a + length lines) lines (omega arith) in
     let nodes_whole : take (b + length nodes) nodes ≡ nodes = take_all (b + length nodes) nodes (omega arith) in
@@ -93,27 +93,27 @@ fewer (as_schedule ss) m n le few = take_fewer ss (m - 2) (n - 2) 4096 (omega ar
 fewer (as_refutation r) m n le small =
     small_take r.lines r.nodes (m - 2) (m - (3 + length r.lines)) (n - 2) (n - (3 + length r.lines)) (omega arith) (omega arith) small
 
-pub closed_go_on : IsClosedUnderFronts CanGoOn
+pub closed_go_on : IsClosedUnderFronts CanGoOnAsEvidence
 closed_go_on = λ front more (w, keeps, begins). (w, (keeps.0, fewer w (length front) (length (front ++ more)) (omega (arith, length-append front more)) keeps.1), begins_front front more (to_end (written_lines w)) begins)
 
 -- ---- where what follows some lines stops
 
-module _ (above : List (List ℕ)) (bytes : List ℕ) (before : List (List ℕ)) (line : List ℕ) (after : List (List ℕ)) (cut : text_lines bytes ≡ before ++ line ∷ after) (good : CanGoOn (above ++ before)) where
-  first_faulty : (CanGoOn ((above ++ before) ++ line ∷ []) → ⊥) → IsFirstFaultyLine (λ front. CanGoOn (above ++ front)) bytes before line
-  first_faulty bad = record { cut = (after, cut); good = good; bad = λ front. bad (subst CanGoOn (sym (append_assoc above before (line ∷ []))) front) }
+module _ (above : List (List ℕ)) (bytes : List ℕ) (before : List (List ℕ)) (line : List ℕ) (after : List (List ℕ)) (cut : text_lines bytes ≡ before ++ line ∷ after) (good : CanGoOnAsEvidence (above ++ before)) where
+  first_faulty : (CanGoOnAsEvidence ((above ++ before) ++ line ∷ []) → ⊥) → IsFirstFaultyLine (λ front. CanGoOnAsEvidence (above ++ front)) bytes before line
+  first_faulty bad = record { cut = (after, cut); good = good; bad = λ front. bad (subst CanGoOnAsEvidence (sym (append_assoc above before (line ∷ []))) front) }
 
-  pub stops_syntax : (number : ℕ) → number ≡ length above + length before + 1 → (HasShape ((above ++ before) ++ line ∷ []) → ⊥) → HasFaultAfter above bytes (Syntax number)
+  pub stops_syntax : (number : ℕ) → number ≡ length above + length before + 1 → (HasEvidenceShape ((above ++ before) ++ line ∷ []) → ⊥) → HasFaultAfter above bytes (Syntax number)
   stops_syntax number at none = (before, line, first_faulty (λ front. none (go_on_shape ((above ++ before) ++ line ∷ []) front)), (omega (arith, at, length-append above before), none))
 
-  pub stops_range : (number : ℕ) → number ≡ length above + length before + 1 → HasShape ((above ++ before) ++ line ∷ []) → (IsInRange ((above ++ before) ++ line ∷ []) → ⊥) → HasFaultAfter above bytes (Range number)
+  pub stops_range : (number : ℕ) → number ≡ length above + length before + 1 → HasEvidenceShape ((above ++ before) ++ line ∷ []) → (IsInEvidenceRange ((above ++ before) ++ line ∷ []) → ⊥) → HasFaultAfter above bytes (Range number)
   stops_range number at shape none = (before, line, first_faulty (λ front. none (go_on_in_range ((above ++ before) ++ line ∷ []) front)), (omega (arith, at, length-append above before), shape, none))
 
-  pub stops_large : IsInRange ((above ++ before) ++ line ∷ []) → (CanGoOn ((above ++ before) ++ line ∷ []) → ⊥) → HasFaultAfter above bytes TooLarge
+  pub stops_large : IsInEvidenceRange ((above ++ before) ++ line ∷ []) → (CanGoOnAsEvidence ((above ++ before) ++ line ∷ []) → ⊥) → HasFaultAfter above bytes TooLarge
   stops_large in_range none = (before, line, first_faulty none, in_range)
 
 -- the fault of a text
 abbrev OfLine : List (List ℕ) → List ℕ → EvidenceFault → Type 0
-OfLine above bytes fault = (before : List (List ℕ)) × (line : List ℕ) × IsFirstFaultyLine (λ front. CanGoOn (above ++ front)) bytes before line × IsWhy fault (above ++ before) line
+OfLine above bytes fault = (before : List (List ℕ)) × (line : List ℕ) × IsFirstFaultyLine (λ front. CanGoOnAsEvidence (above ++ front)) bytes before line × IsWhy fault (above ++ before) line
 
 more_above : (above more : List (List ℕ)) (bytes rest : List ℕ) (fault : EvidenceFault) → text_lines bytes ≡ more ++ text_lines rest → OfLine (above ++ more) rest fault → OfLine above bytes fault
 more_above above more bytes rest fault e (before, line, first, why) = (
@@ -121,8 +121,8 @@ more_above above more bytes rest fault e (before, line, first, why) = (
   line,
   record {
     cut = (first.cut.0, e ∙ ap (λ (ls : List (List ℕ)). more ++ ls) first.cut.1 ∙ sym (append_assoc more before (line ∷ first.cut.0)));
-    good = subst CanGoOn (append_assoc above more before) first.good;
-    bad = λ front. first.bad (subst CanGoOn (ap (λ (ls : List (List ℕ)). above ++ ls) (append_assoc more before (line ∷ [])) ∙ sym (append_assoc above more (before ++ line ∷ []))) front);
+    good = subst CanGoOnAsEvidence (append_assoc above more before) first.good;
+    bad = λ front. first.bad (subst CanGoOnAsEvidence (ap (λ (ls : List (List ℕ)). above ++ ls) (append_assoc more before (line ∷ [])) ∙ sym (append_assoc above more (before ++ line ∷ []))) front);
   },
   subst (λ (ls : List (List ℕ)). IsWhy fault ls line) (append_assoc above more before) why,
 )

@@ -15,10 +15,10 @@ use Rattle.prooflog.specs.declared.fault.EvidenceFault.TheVariants.{Syntax, Rang
 use Rattle.prooflog.specs.declared.refutation.Version.{Version}
 use Rattle.prooflog.specs.declared.refutation.Version.TheVariants.{One, Two}
 use Rattle.prooflog.specs.Steps.{written, step_line, IsSchedule, schedule_line}
-use Rattle.prooflog.specs.Refutations.{ClaimedRefutation, IsSmall, IsRefutation, items, item_line}
+use Rattle.prooflog.specs.Refutations.{ClaimedRefutation, IsSmallRefutation, IsRefutation, items, item_line}
 use Rattle.prooflog.specs.Grammar.{Written, as_schedule, as_refutation, heading_line, refutation_line, written_lines, IsEvidenceText}
-use Rattle.prooflog.specs.Fault.{HasShape, IsInRange, CanGoOn, HasEvidenceFault}
-use Rattle.prooflog.specs.parts.Reading.{words_of, counts_words, opening, HasFaultAfter}
+use Rattle.prooflog.specs.Fault.{HasEvidenceShape, IsInEvidenceRange, CanGoOnAsEvidence, HasEvidenceFault}
+use Rattle.prooflog.specs.parts.Reading.{words_of, counts_words, opening_lines, HasFaultAfter}
 use Rattle.prooflog.proofs.Fronts.{small_front, stops_syntax, stops_range, after_more, of_text}
 use Rattle.prooflog.proofs.Exact.{plain_counts, same_counts, kinds_differ, below_heading}
 
@@ -33,16 +33,16 @@ opened : (w : Written) → Opened w
 opened (as_schedule ss) = record { version = One; second = schedule_line; others = to_end (map step_line ss); lines = refl }
 opened (as_refutation r) = record { version = r.version; second = refutation_line r.variables r.clauses; others = to_end (map item_line (items r)); lines = refl }
 
-nothing_yet : CanGoOn []
+nothing_yet : CanGoOnAsEvidence []
 nothing_yet = (as_schedule [], ((λ k d lt. absurd (omega arith)), omega arith), (to_end (written_lines (as_schedule [])), refl))
 
 -- a refutation with a tree of one leaf
 abbrev claim : Version → ℕ → ℕ → ClaimedRefutation
 claim version v c = record { version = version; variables = v; clauses = c; lines = []; nodes = Leaf 1 ∷ [] }
 
-one_heading : (version : Version) → CanGoOn (heading_line version ∷ [])
+one_heading : (version : Version) → CanGoOnAsEvidence (heading_line version ∷ [])
 one_heading version =
-    let small : IsSmall [] (Leaf 1 ∷ []) = record { few_lines = omega arith; few_nodes = omega arith; shallow = refl } in (
+    let small : IsSmallRefutation [] (Leaf 1 ∷ []) = record { few_lines = omega arith; few_nodes = omega arith; shallow = refl } in (
       as_refutation (claim version 0 0),
       (record { variables = omega arith; clauses = omega arith; lines = refl; numbered = refl; is_tree = refl }, small_front [] (Leaf 1 ∷ []) (1 - 2) (1 - 3) small),
       (refutation_line 0 0 ∷ to_end (map item_line (items (claim version 0 0))), refl),
@@ -100,7 +100,7 @@ pub second_over : (bytes rest line : List ℕ) (after : List (List ℕ)) (versio
 second_over bytes rest line after version v c first cut spelled over =
     let whole : text_lines bytes ≡ (heading_line version ∷ []) ++ line ∷ after = first ∙ ap (λ (ls : List (List ℕ)). heading_line version ∷ ls) cut in
     let below : List (List ℕ) = to_end (map item_line (items (claim version v c))) in
-    let shape : HasShape (heading_line version ∷ line ∷ []) = (as_refutation (claim version v c), refl, (below, ap (λ (l : List ℕ). heading_line version ∷ l ∷ below) spelled)) in
+    let shape : HasEvidenceShape (heading_line version ∷ line ∷ []) = (as_refutation (claim version v c), refl, (below, ap (λ (l : List ℕ). heading_line version ∷ l ∷ below) spelled)) in
     of_text bytes (Range 2) (stops_range [] bytes (heading_line version ∷ []) line after whole (one_heading version) 2 refl shape (λ (w, keeps, (more, e)).
     over (counts_in_range version v c w more (e ∙ ap (λ (l : List ℕ). heading_line version ∷ l ∷ more) (sym spelled)) keeps)))
 
@@ -130,12 +130,12 @@ is_schedule_text bytes rest steps cut limits e = record {
   text = text_joined bytes (written_lines (as_schedule (map written steps))) (cut ∙ ap (λ (ls : List (List ℕ)). heading_line One ∷ schedule_line ∷ ls) e);
 }
 
-pub is_refutation_text : (bytes rest : List ℕ) (version : Version) (v c : ℕ) (r : ClaimedRefutation) → text_lines bytes ≡ opening version v c ++ text_lines rest → (r.version ≡ version) × (r.variables ≡ v) × (r.clauses ≡ c) → IsRefutation r
+pub is_refutation_text : (bytes rest : List ℕ) (version : Version) (v c : ℕ) (r : ClaimedRefutation) → text_lines bytes ≡ opening_lines version v c ++ text_lines rest → (r.version ≡ version) × (r.variables ≡ v) × (r.clauses ≡ c) → IsRefutation r
     → text_lines rest ≡ to_end (map item_line (items r)) → IsEvidenceText bytes (Refutation r)
 is_refutation_text bytes rest version v c r cut counts limits e = record {
   limits = limits;
   text = text_joined bytes (written_lines (as_refutation r)) (
-      cut ∙ ap (λ (ls : List (List ℕ)). opening version v c ++ ls) e
-      ∙ (λ i. opening (sym counts.0 i) (sym counts.1 i) (sym counts.2 i) ++ to_end (map item_line (items r)))
+      cut ∙ ap (λ (ls : List (List ℕ)). opening_lines version v c ++ ls) e
+      ∙ (λ i. opening_lines (sym counts.0 i) (sym counts.1 i) (sym counts.2 i) ++ to_end (map item_line (items r)))
       );
 }

@@ -8,7 +8,7 @@ use Rattle.std.proofs.lemmas.Bool.{and_parts, and_from, ltb-true, leb-true, le-l
 use Rattle.plaintext.specs.Plain.{numeral}
 use Rattle.plaintext.proofs.FirstFaults.{heads}
 use Rattle.clauses.specs.Clauses.{Literal, rises, rises_above, is_within}
-use Rattle.refutations.specs.Proofs.{ProofLine, is_number, are_numbers}
+use Rattle.refutations.specs.Proofs.{ProofLine, is_proof_number, are_numbers}
 use Rattle.prooflog.specs.Refutations.{literal_word, proof_words, is_line_in_range}
 use Rattle.prooflog.specs.parts.Reading.{capped, IsVariable, AreRead}
 use Rattle.prooflog.proofs.ProofWords.{same_literals}
@@ -49,7 +49,7 @@ variables_within (l ∷ ls) all = and_from (nat_le l.variable 2147483647) (is_wi
 capped_same : (ns : List ℕ) → IsTrue (are_numbers (map capped ns)) → map capped ns ≡ ns
 capped_same [] fits = refl
 capped_same (n ∷ ns) fits =
-    let parts = and_parts (is_number (capped n)) (are_numbers (map capped ns)) fits in
+    let parts = and_parts (is_proof_number (capped n)) (are_numbers (map capped ns)) fits in
     let most = leb-true (capped n) 2147483647 (and_parts (nat_le 1 (capped n)) (nat_le (capped n) 2147483647) parts.0).1 in
     let first : capped n ≡ n = omega (arith, most) in
     let others = capped_same ns parts.1 in
@@ -58,7 +58,7 @@ capped_same (n ∷ ns) fits =
 small_capped : (ns : List ℕ) → IsTrue (are_numbers ns) → map capped ns ≡ ns
 small_capped [] fits = refl
 small_capped (n ∷ ns) fits =
-    let parts = and_parts (is_number n) (are_numbers ns) fits in
+    let parts = and_parts (is_proof_number n) (are_numbers ns) fits in
     let most = leb-true n 2147483647 (and_parts (nat_le 1 n) (nat_le n 2147483647) parts.0).1 in
     let first : capped n ≡ n = omega (arith, most) in
     let others = small_capped ns parts.1 in

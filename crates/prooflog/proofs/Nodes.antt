@@ -10,15 +10,15 @@ use Rattle.plaintext.specs.TextLines.{text_lines}
 use Rattle.plaintext.specs.Fronts.{to_end, BeginsWith}
 use Rattle.plaintext.proofs.Cuts.{no_line_of, words_are, line_is}
 use Rattle.plaintext.proofs.Texts.{capped_small}
-use Rattle.refutations.specs.Proofs.{ProofLine, is_tree, are_trees, missing_after, is_number, number_of, are_numbered}
+use Rattle.refutations.specs.Proofs.{ProofLine, is_tree, are_trees, missing_after, is_proof_number, number_of, are_numbered}
 use Rattle.refutations.specs.declared.tree.Node.{Node}
 use Rattle.refutations.specs.declared.tree.Node.TheVariants.{Split, Leaf}
 use Rattle.prooflog.specs.declared.fault.EvidenceFault.TheVariants.{Syntax, Range, TooLarge}
 use Rattle.prooflog.specs.declared.refutation.Version.{Version}
-use Rattle.prooflog.specs.Refutations.{ClaimedRefutation, Item, node_words, item_words, item_line, items, a_proof, a_node, the_tree, depths, is_depth, IsInRangeRefutation, IsSmall, waiting_after}
+use Rattle.prooflog.specs.Refutations.{ClaimedRefutation, Item, node_words, item_words, item_line, items, a_proof, a_node, the_tree, depths, is_depth, IsInRangeRefutation, IsSmallRefutation, waiting_after}
 use Rattle.prooflog.specs.Grammar.{Written, as_refutation, written_lines}
-use Rattle.prooflog.specs.Fault.{IsShaped, IsRanged, IsFew, CanGoOn}
-use Rattle.prooflog.specs.parts.Reading.{words_of, capped_node, HasFaultAfter, opening, above_tree, FitsAbove}
+use Rattle.prooflog.specs.Fault.{IsShaped, IsRanged, IsFew, CanGoOnAsEvidence}
+use Rattle.prooflog.specs.parts.Reading.{words_of, capped_node, HasFaultAfter, opening_lines, above_tree, FitsAbove}
 use Rattle.prooflog.proofs.ProofWords.{plain_item, some_item_words, item_line_injective, item_line_nonempty}
 use Rattle.prooflog.proofs.Items.{cut_at_tree, same_nodes, next_of_nodes}
 use Rattle.prooflog.proofs.Fronts.{stops_syntax, stops_range, stops_large, small_front}
@@ -45,7 +45,7 @@ numbered_leaves zero = refl
 numbered_leaves (suc n) = numbered_leaves n
 
 both_numbered : (nodes more : List Node) → IsTrue (are_numbered nodes) → IsTrue (are_numbered more) → IsTrue (are_numbered (nodes ++ more))
-both_numbered nodes more one two = list_all-append (λ node. is_number (number_of node)) nodes more ∙ rw (one, two) refl
+both_numbered nodes more one two = list_all-append (λ node. is_proof_number (number_of node)) nodes more ∙ rw (one, two) refl
 
 -- a node takes the place of one missing tree
 one_node : (missing : ℕ) (node : Node) (more : List Node) → 0 < missing → are_trees missing (node ∷ more) ≡ are_trees (missing_after missing node) more
@@ -63,9 +63,9 @@ abbrev claim : Version → ℕ → ℕ → List ProofLine → List Node → Clai
 claim version v c lines nodes = record { version = version; variables = v; clauses = c; lines = lines; nodes = nodes }
 
 -- the lines above, and those of some items, are those of all items
-tree_front : (version : Version) (v c : ℕ) (lines : List ProofLine) (below : List Item) → above_tree version v c lines ++ map item_line below ≡ opening version v c ++ map item_line (map a_proof lines ++ the_tree ∷ below)
+tree_front : (version : Version) (v c : ℕ) (lines : List ProofLine) (below : List Item) → above_tree version v c lines ++ map item_line below ≡ opening_lines version v c ++ map item_line (map a_proof lines ++ the_tree ∷ below)
 tree_front version v c lines below =
-    ap (λ (ls : List (List ℕ)). opening version v c ++ ls) (sym (map-append item_line (map a_proof lines ++ the_tree ∷ []) below) ∙ ap (map item_line) (append_assoc (map a_proof lines) (the_tree ∷ []) below))
+    ap (λ (ls : List (List ℕ)). opening_lines version v c ++ ls) (sym (map-append item_line (map a_proof lines ++ the_tree ∷ []) below) ∙ ap (map item_line) (append_assoc (map a_proof lines) (the_tree ∷ []) below))
 
 nodes_begin : (version : Version) (v c : ℕ) (lines : List ProofLine) (done more : List Node) → BeginsWith (above_tree version v c lines ++ map item_line (map a_node done)) (to_end (written_lines (as_refutation (claim version v c lines (done ++ more)))))
 nodes_begin version v c lines done more =
@@ -126,7 +126,7 @@ push_node : (nodes : List Node) (node : Node) → map item_line (map a_node (nod
 push_node nodes node = ap (map item_line) (map_push a_node nodes node) ∙ map_push item_line (map a_node nodes) (a_node node)
 
 pub one_more_node : (bytes rest after : List ℕ) (first number : ℕ) (nodes : List Node) (others : List ℕ) (depth : ℕ) (node : Node) (line : List ℕ) → NodesSoFar bytes rest first number nodes (others ++ depth ∷ []) → text_lines rest ≡ line ∷ text_lines after
-    → item_line (a_node node) ≡ line → IsTrue (is_number (number_of node)) → length nodes < 65536 → depth ≤ 64 → NodesSoFar bytes after first (number + 1) (nodes ++ node ∷ []) (waiting_after others depth node)
+    → item_line (a_node node) ≡ line → IsTrue (is_proof_number (number_of node)) → length nodes < 65536 → depth ≤ 64 → NodesSoFar bytes after first (number + 1) (nodes ++ node ∷ []) (waiting_after others depth node)
 one_more_node bytes rest after first number nodes others depth node line so next spelled fits few shallow =
     let deep_enough : is_depth depth ≡ true = grind arith in
     record {
@@ -143,7 +143,7 @@ one_more_node bytes rest after first number nodes others depth node line so next
 
 -- ---- where it stops
 
-small_so_far : (bytes rest : List ℕ) (first number : ℕ) (nodes : List Node) (waiting : List ℕ) (lines : List ProofLine) → NodesSoFar bytes rest first number nodes waiting → length lines ≤ 1000000 → IsSmall lines nodes
+small_so_far : (bytes rest : List ℕ) (first number : ℕ) (nodes : List Node) (waiting : List ℕ) (lines : List ProofLine) → NodesSoFar bytes rest first number nodes waiting → length lines ≤ 1000000 → IsSmallRefutation lines nodes
 small_so_far bytes rest first number nodes waiting lines so few = record {
   few_lines = few;
   few_nodes = so.few;
@@ -167,14 +167,14 @@ module _ (bytes rest : List ℕ) (first number : ℕ) (nodes : List Node) (waiti
   ranged : (more : List Node) → IsTrue (are_numbered more) → are_trees (length waiting) more ≡ true → IsInRangeRefutation (claim version v c lines (nodes ++ more))
   ranged more numbered trees = record { variables = fits.variables_in_range; clauses = fits.clauses_in_range; lines = fits.lines_in_range; numbered = both_numbered nodes more so.numbered numbered; is_tree = so.trees more ∙ trees }
 
-  good : CanGoOn (above_tree version v c lines ++ map item_line (map a_node nodes))
+  good : CanGoOnAsEvidence (above_tree version v c lines ++ map item_line (map a_node nodes))
   good =
       let more : List Node = leaves (length waiting) in
       let count : ℕ = length (above_tree version v c lines ++ map item_line (map a_node nodes)) in
       let left : count - (3 + length lines) ≡ length nodes = omega (arith, above_length, nodes_length, length-append (above_tree version v c lines) (map item_line (map a_node nodes))) in
       let held : take (count - (3 + length lines)) (nodes ++ more) ≡ take (length nodes) nodes = ap (λ (n : ℕ). take n (nodes ++ more)) left ∙ take-append_seam nodes more ∙ sym (take-length nodes) in
-      let small : IsSmall (take (count - 2) lines) (take (length nodes) nodes) = small_front lines nodes (count - 2) (length nodes) (small_so_far bytes rest first number nodes waiting lines so fits.few) in
-      (as_refutation (claim version v c lines (nodes ++ more)), (ranged more (numbered_leaves (length waiting)) (trees_of_leaves (length waiting)), subst (λ (ns : List Node). IsSmall (take (count - 2) lines) ns) (sym held) small), nodes_begin version v c lines nodes more)
+      let small : IsSmallRefutation (take (count - 2) lines) (take (length nodes) nodes) = small_front lines nodes (count - 2) (length nodes) (small_so_far bytes rest first number nodes waiting lines so fits.few) in
+      (as_refutation (claim version v c lines (nodes ++ more)), (ranged more (numbered_leaves (length waiting)) (trees_of_leaves (length waiting)), subst (λ (ns : List Node). IsSmallRefutation (take (count - 2) lines) ns) (sym held) small), nodes_begin version v c lines nodes more)
 
   at : number ≡ length (above_tree version v c lines) + length (map item_line (map a_node nodes)) + 1
   at = omega (arith, so.place, placed, above_length, nodes_length)
@@ -205,7 +205,7 @@ module _ (bytes rest : List ℕ) (first number : ℕ) (nodes : List Node) (waiti
         | inr x ↦ some x.0
       ])
 
-  pub nodes_stop_range : 0 < length waiting → (node : Node) → item_line (a_node node) ≡ line → (IsTrue (is_number (number_of node)) → ⊥) → HasFaultAfter (above_tree version v c lines) bytes (Range number)
+  pub nodes_stop_range : 0 < length waiting → (node : Node) → item_line (a_node node) ≡ line → (IsTrue (is_proof_number (number_of node)) → ⊥) → HasFaultAfter (above_tree version v c lines) bytes (Range number)
   nodes_stop_range some node spelled over =
       let more : List Node = leaves (missing_after (length waiting) node) in
       stops_range (above_tree version v c lines) bytes (map item_line (map a_node nodes)) line after cut good number at (as_refutation (claim version v c lines (nodes ++ node ∷ more)), so.trees (node ∷ more) ∙ trees_after (length waiting) node some, with_node node more spelled) (λ (w, keeps, begins).
@@ -215,13 +215,13 @@ module _ (bytes rest : List ℕ) (first number : ℕ) (nodes : List Node) (waiti
         | inl x ↦
             let same : a_node x.0 ≡ a_node node = item_line_injective (a_node x.0) (a_node node) (x.2 ∙ sym spelled) in
             let one : x.0 ≡ node = cc in
-            let split : (are_numbered nodes && are_numbered (x.0 ∷ x.1)) ≡ true = sym (list_all-append (λ n. is_number (number_of n)) nodes (x.0 ∷ x.1)) ∙ ap are_numbered (sym x.3) ∙ in_range.numbered in
-            over (subst (λ (n : Node). IsTrue (is_number (number_of n))) one ((and_parts (is_number (number_of x.0)) (are_numbered x.1) (and_parts (are_numbered nodes) (are_numbered (x.0 ∷ x.1)) split).1).0))
+            let split : (are_numbered nodes && are_numbered (x.0 ∷ x.1)) ≡ true = sym (list_all-append (λ n. is_proof_number (number_of n)) nodes (x.0 ∷ x.1)) ∙ ap are_numbered (sym x.3) ∙ in_range.numbered in
+            over (subst (λ (n : Node). IsTrue (is_proof_number (number_of n))) one ((and_parts (is_proof_number (number_of x.0)) (are_numbered x.1) (and_parts (are_numbered nodes) (are_numbered (x.0 ∷ x.1)) split).1).0))
         | inr x ↦ item_line_nonempty (a_node node) (spelled ∙ x.0)
       ])
 
   -- a node too many, or one that is too deep
-  pub nodes_stop_large : (others : List ℕ) (depth : ℕ) → waiting ≡ others ++ depth ∷ [] → (node : Node) → item_line (a_node node) ≡ line → IsTrue (is_number (number_of node)) → (65536 ≤ length nodes) ⊎ (64 < depth) → HasFaultAfter (above_tree version v c lines) bytes TooLarge
+  pub nodes_stop_large : (others : List ℕ) (depth : ℕ) → waiting ≡ others ++ depth ∷ [] → (node : Node) → item_line (a_node node) ≡ line → IsTrue (is_proof_number (number_of node)) → (65536 ≤ length nodes) ⊎ (64 < depth) → HasFaultAfter (above_tree version v c lines) bytes TooLarge
   nodes_stop_large others depth is_waiting node spelled numbered large =
       let some : 0 < length waiting = omega (arith, ap length is_waiting, length-append others (depth ∷ [])) in
       let more : List Node = leaves (missing_after (length waiting) node) in
@@ -251,7 +251,7 @@ nodes_unended bytes rest first number nodes waiting so some one version v c line
     nodes_stop_syntax bytes rest first number nodes waiting so rest [] one version v c lines fits placed some (λ node e. no_line_of rest (item_words (a_node node)) one e)
 
 -- the end of a whole tree
-pub nodes_whole : (bytes rest : List ℕ) (first number : ℕ) (nodes : List Node) (waiting : List ℕ) → NodesSoFar bytes rest first number nodes waiting → length waiting ≡ 0 → length rest ≡ 0 → (text_lines bytes ≡ to_end (map item_line (map a_node nodes))) × IsTrue (is_tree nodes) × IsSmall [] nodes
+pub nodes_whole : (bytes rest : List ℕ) (first number : ℕ) (nodes : List Node) (waiting : List ℕ) → NodesSoFar bytes rest first number nodes waiting → length waiting ≡ 0 → length rest ≡ 0 → (text_lines bytes ≡ to_end (map item_line (map a_node nodes))) × IsTrue (is_tree nodes) × IsSmallRefutation [] nodes
 nodes_whole bytes rest first number nodes waiting so none ended = (
   so.cut ∙ ap (λ (ls : List (List ℕ)). map item_line (map a_node nodes) ++ ls) (ended_lines rest ended),
   ap (are_trees 1) (sym (append-nil nodes)) ∙ so.trees [] ∙ ap (λ (n : ℕ). are_trees n []) none,
@@ -270,25 +270,25 @@ no_node_line line none node e = none node (words_are (node_words node) line (som
 pub node_line_of : (line : List ℕ) (node : Node) → node_words node ≡ words_of line → item_line (a_node node) ≡ line ++ 10 ∷ []
 node_line_of line node e = line_is (node_words node) line e
 
-within : (n : ℕ) → is_number n ≡ true → (1 ≤ n) × (n ≤ 2147483647)
+within : (n : ℕ) → is_proof_number n ≡ true → (1 ≤ n) × (n ≤ 2147483647)
 within n e = let parts = and_parts (nat_le 1 n) (nat_le n 2147483647) e in (leb-true 1 n parts.0, leb-true n 2147483647 parts.1)
 
 -- a node that is read in range is the line's
-pub read_node : (node read : Node) → read ≡ capped_node node → IsTrue (is_number (number_of read)) → read ≡ node
+pub read_node : (node read : Node) → read ≡ capped_node node → IsTrue (is_proof_number (number_of read)) → read ≡ node
 read_node (Split v) read e fits =
-    let in_range : is_number (min v 2147483648) ≡ true = ap (λ (n : Node). is_number (number_of n)) (sym e) ∙ fits in
+    let in_range : is_proof_number (min v 2147483648) ≡ true = ap (λ (n : Node). is_proof_number (number_of n)) (sym e) ∙ fits in
     e ∙ ap (λ (n : ℕ). Split n) (capped_small v 2147483647 (omega arith) (within (min v 2147483648) in_range).1)
 read_node (Leaf k) read e fits =
-    let in_range : is_number (min k 2147483648) ≡ true = ap (λ (n : Node). is_number (number_of n)) (sym e) ∙ fits in
+    let in_range : is_proof_number (min k 2147483648) ≡ true = ap (λ (n : Node). is_proof_number (number_of n)) (sym e) ∙ fits in
     e ∙ ap (λ (n : ℕ). Leaf n) (capped_small k 2147483647 (omega arith) (within (min k 2147483648) in_range).1)
 
-capped_number : (n : ℕ) → is_number n ≡ true → min n 2147483648 ≡ n
+capped_number : (n : ℕ) → is_proof_number n ≡ true → min n 2147483648 ≡ n
 capped_number n e = omega (arith, (within n e).1)
 
 -- a node that is read out of range is out of range
-pub over_node : (node read : Node) → read ≡ capped_node node → (IsTrue (is_number (number_of read)) → ⊥) → IsTrue (is_number (number_of node)) → ⊥
-over_node (Split v) read e over fits = over (ap (λ (n : Node). is_number (number_of n)) e ∙ ap is_number (capped_number v fits) ∙ fits)
-over_node (Leaf k) read e over fits = over (ap (λ (n : Node). is_number (number_of n)) e ∙ ap is_number (capped_number k fits) ∙ fits)
+pub over_node : (node read : Node) → read ≡ capped_node node → (IsTrue (is_proof_number (number_of read)) → ⊥) → IsTrue (is_proof_number (number_of node)) → ⊥
+over_node (Split v) read e over fits = over (ap (λ (n : Node). is_proof_number (number_of n)) e ∙ ap is_proof_number (capped_number v fits) ∙ fits)
+over_node (Leaf k) read e over fits = over (ap (λ (n : Node). is_proof_number (number_of n)) e ∙ ap is_proof_number (capped_number k fits) ∙ fits)
 
 -- where bytes are left, a line is left
 pub record FirstLine (bytes : List ℕ) : Type 0 where

@@ -12,10 +12,10 @@ use Rattle.refutations.specs.Proofs.{ProofLine}
 use Rattle.refutations.specs.declared.tree.Node.TheVariants.{Leaf}
 use Rattle.prooflog.specs.declared.fault.EvidenceFault.TheVariants.{Syntax, Range, TooLarge}
 use Rattle.prooflog.specs.declared.refutation.Version.{Version}
-use Rattle.prooflog.specs.Refutations.{ClaimedRefutation, proof_words, item_words, item_line, a_proof, a_node, the_tree, is_line_in_range, IsInRangeRefutation, IsSmall}
+use Rattle.prooflog.specs.Refutations.{ClaimedRefutation, proof_words, item_words, item_line, a_proof, a_node, the_tree, is_line_in_range, IsInRangeRefutation, IsSmallRefutation}
 use Rattle.prooflog.specs.Grammar.{as_refutation, written_lines}
-use Rattle.prooflog.specs.Fault.{IsRanged, IsFew, CanGoOn}
-use Rattle.prooflog.specs.parts.Reading.{words_of, HasFaultAfter, opening, LinesSoFar}
+use Rattle.prooflog.specs.Fault.{IsRanged, IsFew, CanGoOnAsEvidence}
+use Rattle.prooflog.specs.parts.Reading.{words_of, HasFaultAfter, opening_lines, LinesSoFar}
 use Rattle.prooflog.proofs.ProofWords.{plain_item, some_item_words, item_line_injective, item_line_nonempty}
 use Rattle.prooflog.proofs.Items.{next_of_lines, tree_missing}
 use Rattle.prooflog.proofs.Fronts.{stops_syntax, stops_range, stops_large, small_front}
@@ -55,22 +55,22 @@ module _ (bytes rest : List ℕ) (number : ℕ) (lines : List ProofLine) (so : L
   cut : text_lines bytes ≡ map item_line (map a_proof lines) ++ line ∷ after
   cut = so.cut ∙ ap (λ (ls : List (List ℕ)). map item_line (map a_proof lines) ++ ls) next
 
-  good : CanGoOn (opening version v c ++ map item_line (map a_proof lines))
+  good : CanGoOnAsEvidence (opening_lines version v c ++ map item_line (map a_proof lines))
   good =
-      let front : List (List ℕ) = opening version v c ++ map item_line (map a_proof lines) in
-      let small : IsSmall lines (Leaf 1 ∷ []) = record { few_lines = so.few; few_nodes = omega arith; shallow = refl } in
+      let front : List (List ℕ) = opening_lines version v c ++ map item_line (map a_proof lines) in
+      let small : IsSmallRefutation lines (Leaf 1 ∷ []) = record { few_lines = so.few; few_nodes = omega arith; shallow = refl } in
       (as_refutation (claim version v c lines), (in_range_claim version v c lines v_fits c_fits so.in_range, small_front lines (Leaf 1 ∷ []) (length front - 2) (length front - (3 + length lines)) small), begins_items (claim version v c lines) (map a_proof lines) (the_tree ∷ a_node (Leaf 1) ∷ []) refl)
 
-  at : number ≡ length (opening version v c) + length (map item_line (map a_proof lines)) + 1
+  at : number ≡ length (opening_lines version v c) + length (map item_line (map a_proof lines)) + 1
   at = omega (arith, so.place, length-map (map a_proof lines) item_line, length-map lines a_proof)
 
-  with_line : (p : ProofLine) → item_line (a_proof p) ≡ line → BeginsWith ((opening version v c ++ map item_line (map a_proof lines)) ++ line ∷ []) (to_end (written_lines (as_refutation (claim version v c (lines ++ p ∷ [])))))
+  with_line : (p : ProofLine) → item_line (a_proof p) ≡ line → BeginsWith ((opening_lines version v c ++ map item_line (map a_proof lines)) ++ line ∷ []) (to_end (written_lines (as_refutation (claim version v c (lines ++ p ∷ [])))))
   with_line p spelled =
-      subst (λ (ls : List (List ℕ)). BeginsWith (opening version v c ++ ls) (to_end (written_lines (as_refutation (claim version v c (lines ++ p ∷ [])))))) (push_line lines p ∙ ap (λ (l : List ℕ). map item_line (map a_proof lines) ++ l ∷ []) spelled)
+      subst (λ (ls : List (List ℕ)). BeginsWith (opening_lines version v c ++ ls) (to_end (written_lines (as_refutation (claim version v c (lines ++ p ∷ [])))))) (push_line lines p ∙ ap (λ (l : List ℕ). map item_line (map a_proof lines) ++ l ∷ []) spelled)
       (begins_items (claim version v c (lines ++ p ∷ [])) (map a_proof (lines ++ p ∷ [])) (the_tree ∷ a_node (Leaf 1) ∷ []) refl)
 
-  pub lines_stop_syntax : ((p : ProofLine) → item_line (a_proof p) ≢ line) → item_line the_tree ≢ line → HasFaultAfter (opening version v c) bytes (Syntax number)
-  lines_stop_syntax no_line no_tree = stops_syntax (opening version v c) bytes (map item_line (map a_proof lines)) line after cut good number at (λ (w, keeps, begins).
+  pub lines_stop_syntax : ((p : ProofLine) → item_line (a_proof p) ≢ line) → item_line the_tree ≢ line → HasFaultAfter (opening_lines version v c) bytes (Syntax number)
+  lines_stop_syntax no_line no_tree = stops_syntax (opening_lines version v c) bytes (map item_line (map a_proof lines)) line after cut good number at (λ (w, keeps, begins).
       let found = next_item w version v c (map a_proof lines) line begins in
       elim found.next [
         | inl x ↦ elim (next_of_lines found.all.lines lines (map a_node found.all.nodes) x.value x.others x.cut) [
@@ -80,8 +80,8 @@ module _ (bytes rest : List ℕ) (number : ℕ) (lines : List ProofLine) (so : L
         | inr x ↦ tree_missing found.all.lines lines (map a_node found.all.nodes) x.1
       ])
 
-  pub lines_stop_range : (p : ProofLine) → item_line (a_proof p) ≡ line → (IsTrue (is_line_in_range p) → ⊥) → HasFaultAfter (opening version v c) bytes (Range number)
-  lines_stop_range p spelled over = stops_range (opening version v c) bytes (map item_line (map a_proof lines)) line after cut good number at (as_refutation (claim version v c (lines ++ p ∷ [])), refl, with_line p spelled) (λ (w, keeps, begins).
+  pub lines_stop_range : (p : ProofLine) → item_line (a_proof p) ≡ line → (IsTrue (is_line_in_range p) → ⊥) → HasFaultAfter (opening_lines version v c) bytes (Range number)
+  lines_stop_range p spelled over = stops_range (opening_lines version v c) bytes (map item_line (map a_proof lines)) line after cut good number at (as_refutation (claim version v c (lines ++ p ∷ [])), refl, with_line p spelled) (λ (w, keeps, begins).
       let found = next_item w version v c (map a_proof lines) line begins in
       let ranged : IsInRangeRefutation found.all = subst IsRanged found.is keeps in
       elim found.next [
@@ -95,10 +95,10 @@ module _ (bytes rest : List ℕ) (number : ℕ) (lines : List ProofLine) (so : L
         | inr x ↦ item_line_nonempty (a_proof p) (spelled ∙ x.0)
       ])
 
-  pub lines_stop_large : (p : ProofLine) → item_line (a_proof p) ≡ line → IsTrue (is_line_in_range p) → 1000000 ≤ length lines → HasFaultAfter (opening version v c) bytes TooLarge
-  lines_stop_large p spelled fits full = stops_large (opening version v c) bytes (map item_line (map a_proof lines)) line after cut good (as_refutation (claim version v c (lines ++ p ∷ [])), in_range_claim version v c (lines ++ p ∷ []) v_fits c_fits (all_push lines p so.in_range fits), with_line p spelled) (λ (w, keeps, begins).
+  pub lines_stop_large : (p : ProofLine) → item_line (a_proof p) ≡ line → IsTrue (is_line_in_range p) → 1000000 ≤ length lines → HasFaultAfter (opening_lines version v c) bytes TooLarge
+  lines_stop_large p spelled fits full = stops_large (opening_lines version v c) bytes (map item_line (map a_proof lines)) line after cut good (as_refutation (claim version v c (lines ++ p ∷ [])), in_range_claim version v c (lines ++ p ∷ []) v_fits c_fits (all_push lines p so.in_range fits), with_line p spelled) (λ (w, keeps, begins).
       let found = next_item w version v c (map a_proof lines) line begins in
-      let front : List (List ℕ) = (opening version v c ++ map item_line (map a_proof lines)) ++ line ∷ [] in
+      let front : List (List ℕ) = (opening_lines version v c ++ map item_line (map a_proof lines)) ++ line ∷ [] in
       let few : IsFew (length front) (as_refutation found.all) = subst (IsFew (length front)) found.is keeps.1 in
       elim found.next [
         | inl x ↦ elim (next_of_lines found.all.lines lines (map a_node found.all.nodes) x.value x.others x.cut) [
@@ -109,7 +109,7 @@ module _ (bytes rest : List ℕ) (number : ℕ) (lines : List ProofLine) (so : L
       ])
 
 -- a last line that lacks its LF, or none
-pub lines_unended : (bytes rest : List ℕ) (number : ℕ) (lines : List ProofLine) → LinesSoFar bytes rest number lines → text_lines rest ≡ rest ∷ [] → (version : Version) (v c : ℕ) → v ≤ 2147483647 → c ≤ 2147483647 → HasFaultAfter (opening version v c) bytes (Syntax number)
+pub lines_unended : (bytes rest : List ℕ) (number : ℕ) (lines : List ProofLine) → LinesSoFar bytes rest number lines → text_lines rest ≡ rest ∷ [] → (version : Version) (v c : ℕ) → v ≤ 2147483647 → c ≤ 2147483647 → HasFaultAfter (opening_lines version v c) bytes (Syntax number)
 lines_unended bytes rest number lines so one version v c v_fits c_fits =
     lines_stop_syntax bytes rest number lines so rest [] one version v c v_fits c_fits (λ p e. no_line_of rest (item_words (a_proof p)) one e) (λ e. no_line_of rest (item_words the_tree) one e)
 

@@ -18,7 +18,7 @@ use Rattle.prooflog.specs.declared.step.WrittenStep.{WrittenStep}
 use Rattle.prooflog.specs.Steps.{written, step_words, step_line, IsStepInRange, IsSchedule, schedule_line}
 use Rattle.prooflog.specs.Refutations.{item_line, items}
 use Rattle.prooflog.specs.Grammar.{Written, as_schedule, as_refutation, heading_line, refutation_line, written_lines, IsEvidenceText}
-use Rattle.prooflog.specs.Fault.{IsRanged, IsFew, CanGoOn}
+use Rattle.prooflog.specs.Fault.{IsRanged, IsFew, CanGoOnAsEvidence}
 use Rattle.prooflog.specs.parts.Reading.{HasFaultAfter}
 use Rattle.prooflog.proofs.StepLines.{step_line_injective, step_line_nonempty}
 use Rattle.prooflog.proofs.Fronts.{Next, next_or_end, stops_syntax, stops_range, stops_large}
@@ -83,7 +83,7 @@ module _ (bytes rest : List ℕ) (number : ℕ) (steps : List Step) (so : SoFar 
   cut : text_lines bytes ≡ map step_line (map written steps) ++ line ∷ after
   cut = so.cut ∙ ap (λ (ls : List (List ℕ)). map step_line (map written steps) ++ ls) next
 
-  good : CanGoOn (above_steps ++ map step_line (map written steps))
+  good : CanGoOnAsEvidence (above_steps ++ map step_line (map written steps))
   good =
       let few : length (take (length (above_steps ++ map step_line (map written steps)) - 2) (map written steps)) ≤ 4096 =
       omega (arith, so.limits.few, length-take (length (above_steps ++ map step_line (map written steps)) - 2) (map written steps)) in

@@ -14,7 +14,7 @@ use Rattle.prooflog.specs.declared.step.WrittenStep.{WrittenStep}
 use Rattle.prooflog.specs.declared.step.WrittenStep.TheVariants.{Issue, Match, See}
 use Rattle.prooflog.specs.Steps.{buffered_words, step_words, step_line, IsStepInRange, AreCallsInRange}
 use Rattle.prooflog.specs.parts.Reading.{words_of, capped, capped_step}
-use Rattle.prooflog.specs.Reading.{find_word, find_step}
+use Rattle.prooflog.specs.Reading.{find_word, written_find_step}
 
 -- ---- one line
 
@@ -75,7 +75,7 @@ step_line_nonempty (Match s t) e = cc
 step_line_nonempty (See s f) e = cc
 
 -- a finder's step has its word and the numbers of its calls
-pub find_words : (sees : Bool) (s f : ℕ) → step_words (find_step sees s f) ≡ find_word sees ∷ numeral s ∷ numeral f ∷ []
+pub find_words : (sees : Bool) (s f : ℕ) → step_words (written_find_step sees s f) ≡ find_word sees ∷ numeral s ∷ numeral f ∷ []
 find_words true s f = refl
 find_words false s f = refl
 
@@ -84,7 +84,7 @@ find_words false s f = refl
 same_capped : (s f : ℕ) → AreCallsInRange (capped s) (capped f) → (capped s ≡ s) × (capped f ≡ f)
 same_capped s f fits = (capped_small s 2147483647 (omega arith) fits.1, capped_small f 2147483647 (omega arith) fits.3)
 
-pub capped_find : (sees : Bool) (s f : ℕ) → capped_step (find_step sees s f) ≡ find_step sees (capped s) (capped f)
+pub capped_find : (sees : Bool) (s f : ℕ) → capped_step (written_find_step sees s f) ≡ written_find_step sees (capped s) (capped f)
 capped_find true s f = refl
 capped_find false s f = refl
 

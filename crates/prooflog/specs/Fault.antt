@@ -7,7 +7,7 @@ use Rattle.prooflog.specs.declared.fault.EvidenceFault.{EvidenceFault}
 use Rattle.prooflog.specs.declared.fault.EvidenceFault.TheVariants.{Memory, Syntax, Range, TooLarge}
 use Rattle.prooflog.specs.declared.evidence.Evidence.{Evidence}
 use Rattle.prooflog.specs.Steps.{IsStepInRange}
-use Rattle.prooflog.specs.Refutations.{IsInRangeRefutation, IsSmall}
+use Rattle.prooflog.specs.Refutations.{IsInRangeRefutation, IsSmallRefutation}
 use Rattle.prooflog.specs.Grammar.{Written, as_schedule, as_refutation, written_lines, IsEvidenceText}
 
 -- The nodes of a refutation are those of one tree.
@@ -25,40 +25,40 @@ IsRanged (as_refutation r) = IsInRangeRefutation r
 -- `tree` above the nodes.
 abbrev pub IsFew : ℕ → Written → Type 0
 IsFew count (as_schedule ss) = length (take (count - 2) ss) ≤ 4096
-IsFew count (as_refutation r) = IsSmall (take (count - 2) r.lines) (take (count - (3 + length r.lines)) r.nodes)
+IsFew count (as_refutation r) = IsSmallRefutation (take (count - 2) r.lines) (take (count - (3 + length r.lines)) r.nodes)
 
 -- Some evidence with numbers of any size and any count of lines begins so.
-abbrev pub HasShape : List (List ℕ) → Type 0
-HasShape = CanBegin Written IsShaped written_lines
+abbrev pub HasEvidenceShape : List (List ℕ) → Type 0
+HasEvidenceShape = CanBegin Written IsShaped written_lines
 
 -- Some evidence with numbers in range and any count of lines begins so.
-abbrev pub IsInRange : List (List ℕ) → Type 0
-IsInRange = CanBegin Written IsRanged written_lines
+abbrev pub IsInEvidenceRange : List (List ℕ) → Type 0
+IsInEvidenceRange = CanBegin Written IsRanged written_lines
 
 -- Some evidence with numbers in range begins so, and so far it is not too large.
-abbrev pub CanGoOn : List (List ℕ) → Type 0
-CanGoOn front = (w : Written) × (IsRanged w × IsFew (length front) w) × BeginsWith front (to_end (written_lines w))
+abbrev pub CanGoOnAsEvidence : List (List ℕ) → Type 0
+CanGoOnAsEvidence front = (w : Written) × (IsRanged w × IsFew (length front) w) × BeginsWith front (to_end (written_lines w))
 
 -- Why the line can't stand after those before it. Lines count from 1.
 abbrev pub IsWhy : EvidenceFault → List (List ℕ) → List ℕ → Type 0
 IsWhy Memory before line = ⊥
-IsWhy (Syntax number) before line = (number ≡ length before + 1) × ¬ HasShape (before ++ line ∷ [])
-IsWhy (Range number) before line = (number ≡ length before + 1) × HasShape (before ++ line ∷ []) × ¬ IsInRange (before ++ line ∷ [])
-IsWhy TooLarge before line = IsInRange (before ++ line ∷ [])
+IsWhy (Syntax number) before line = (number ≡ length before + 1) × ¬ HasEvidenceShape (before ++ line ∷ [])
+IsWhy (Range number) before line = (number ≡ length before + 1) × HasEvidenceShape (before ++ line ∷ []) × ¬ IsInEvidenceRange (before ++ line ∷ [])
+IsWhy TooLarge before line = IsInEvidenceRange (before ++ line ∷ [])
 
 -- The bytes have this fault: their first faulty line, and why. Want of memory may always be.
 abbrev pub HasEvidenceFault : List ℕ → EvidenceFault → Type 0
 HasEvidenceFault bytes Memory = Unit {0}
-HasEvidenceFault bytes fault = (before : List (List ℕ)) × (line : List ℕ) × IsFirstFaultyLine CanGoOn bytes before line × IsWhy fault before line
+HasEvidenceFault bytes fault = (before : List (List ℕ)) × (line : List ℕ) × IsFirstFaultyLine CanGoOnAsEvidence bytes before line × IsWhy fault before line
 
 -- A text has one value.
-abbrev pub OneValue : Type 0
-OneValue = (bytes : List ℕ) (a b : Evidence) → IsEvidenceText bytes a → IsEvidenceText bytes b → a ≡ b
+abbrev pub OneEvidenceValue : Type 0
+OneEvidenceValue = (bytes : List ℕ) (a b : Evidence) → IsEvidenceText bytes a → IsEvidenceText bytes b → a ≡ b
 
 -- A text has no fault but want of memory.
-abbrev pub TextHasNoFault : Type 0
-TextHasNoFault = (bytes : List ℕ) (evidence : Evidence) (fault : EvidenceFault) → IsEvidenceText bytes evidence → HasEvidenceFault bytes fault → fault ≡ Memory
+abbrev pub EvidenceTextHasNoFault : Type 0
+EvidenceTextHasNoFault = (bytes : List ℕ) (evidence : Evidence) (fault : EvidenceFault) → IsEvidenceText bytes evidence → HasEvidenceFault bytes fault → fault ≡ Memory
 
 -- Bytes have at most one fault besides want of memory.
-abbrev pub OneFault : Type 0
-OneFault = (bytes : List ℕ) (a b : EvidenceFault) → HasEvidenceFault bytes a → HasEvidenceFault bytes b → a ≢ Memory → b ≢ Memory → a ≡ b
+abbrev pub OneEvidenceFault : Type 0
+OneEvidenceFault = (bytes : List ℕ) (a b : EvidenceFault) → HasEvidenceFault bytes a → HasEvidenceFault bytes b → a ≢ Memory → b ≢ Memory → a ≡ b

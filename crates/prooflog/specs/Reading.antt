@@ -4,9 +4,9 @@ use Rattle.prooflog.specs.declared.step.WrittenStep.{WrittenStep}
 use Rattle.prooflog.specs.declared.step.WrittenStep.TheVariants.{Match, See}
 
 -- The step by which a finder finds a send: a probe sees it, a taker is matched with it.
-abbrev pub find_step : Bool → ℕ → ℕ → WrittenStep
-find_step true send probe = See send probe
-find_step false send taker = Match send taker
+abbrev pub written_find_step : Bool → ℕ → ℕ → WrittenStep
+written_find_step true send probe = See send probe
+written_find_step false send taker = Match send taker
 
 -- The word of a finder's step is `see` for a probe, and `match` for a taker.
 abbrev pub find_word : Bool → List ℕ

@@ -83,11 +83,11 @@ is_depth depth = nat_le depth 64
 
 -- There are at most 1,000,000 proof lines and 65,536 nodes, and no node is deeper than 64, where
 -- the root's depth is 0.
-pub record IsSmall (lines : List ProofLine) (nodes : List Node) : Type 0 where
+pub record IsSmallRefutation (lines : List ProofLine) (nodes : List Node) : Type 0 where
   pub few_lines : length lines ≤ 1000000
   pub few_nodes : length nodes ≤ 65536
   pub shallow : IsTrue (list_all is_depth (depths (0 ∷ []) nodes))
 
 -- A refutation is within the limits if it is in range and small.
 abbrev pub IsRefutation : ClaimedRefutation → Type 0
-IsRefutation r = IsInRangeRefutation r × IsSmall r.lines r.nodes
+IsRefutation r = IsInRangeRefutation r × IsSmallRefutation r.lines r.nodes

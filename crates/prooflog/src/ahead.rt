@@ -1,7 +1,7 @@
 //! Proof lines that are read ahead of the others, in parts, each in a thread of its own.
 
 ghost use Rattle.std.specs.Prelude.{◌≡◌, ◌+◌, ◌≤◌, IfSome, IfOk, length};
-ghost use Rattle.prooflog.specs.parts.Reading.{AreWhole, IsPart, AreParts, LinesSoFar, HaveReached};
+ghost use Rattle.prooflog.specs.parts.Reading.{AreWhole, IsTextPart, AreParts, LinesSoFar, HaveReached};
 
 use crate::proof_line::proof_line_of;
 use crate::refutation::{MOST_LINES, MOST_NODES};
@@ -94,7 +94,7 @@ fn whole_lines(alloc: Global, bytes: &[u8]) -> Option<Vec<Line>>
 }
 
 fn read_part(alloc: Global, bytes: &[u8], start: usize, end: usize) -> Option<TextPart>
-    ensures { IfSome result (IsPart bytes.now) }
+    ensures { IfSome result (IsTextPart bytes.now) }
 {
     let lines = whole_lines(alloc, bytes.get(start..end)?)?;
     Some(TextPart { start, end, lines })
@@ -115,7 +115,7 @@ fn parts_of<R: Threads + Sync>(
         alloc,
         parts,
         &|part: usize| -> Option<TextPart>
-            ensures { IfSome result (IsPart bytes.entry.now) }
+            ensures { IfSome result (IsTextPart bytes.entry.now) }
         {
             let start = part_start(bytes, length, parts, part);
             let end = part_start(bytes, length, parts, part.saturating_add(1));
@@ -128,7 +128,7 @@ fn parts_of<R: Threads + Sync>(
 /// end now.
 fn with_part(bytes: &[u8], lines: &mut Vec<Line>, used: usize, part: Option<TextPart>) -> usize
     requires reached { HaveReached bytes.now used lines.old.items }
-    requires part { IfSome part (IsPart bytes.now) }
+    requires part { IfSome part (IsTextPart bytes.now) }
     ensures { HaveReached bytes.now result lines.new.items }
 {
     let Some(

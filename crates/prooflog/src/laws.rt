@@ -2,21 +2,21 @@
 //! stand.
 
 ghost use Rattle.prooflog.specs.Depths.{DepthsAreOfTheTree};
-ghost use Rattle.prooflog.specs.Fault.{OneFault, OneValue, TextHasNoFault};
+ghost use Rattle.prooflog.specs.Fault.{OneEvidenceFault, OneEvidenceValue, EvidenceTextHasNoFault};
 
 /// Bytes are the text of at most one evidence.
 pub fn one_value()
-    ensures { OneValue }
+    ensures { OneEvidenceValue }
 {}
 
 /// The text of an evidence has no fault but want of memory.
 pub fn text_has_no_fault()
-    ensures { TextHasNoFault }
+    ensures { EvidenceTextHasNoFault }
 {}
 
 /// Bytes have at most one fault besides want of memory.
 pub fn one_fault()
-    ensures { OneFault }
+    ensures { OneEvidenceFault }
 {}
 
 /// The depths of a tree's nodes, as the limits count them, are those of the tree: the root's is 0,

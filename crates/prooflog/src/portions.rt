@@ -2,7 +2,7 @@
 
 ghost use Rattle.std.specs.Prelude.{◌≡◌, ◌++◌, ◌∷◌, [], IfOk, OnOk};
 ghost use Rattle.std.specs.List.{flat_map};
-ghost use Rattle.prooflog.specs.parts.Portions.{lines_text, part_text, portions_lines};
+ghost use Rattle.prooflog.specs.parts.Portions.{lines_text, portion_text, portions_lines};
 
 use crate::text::Text;
 use crate::writer::put_lines;
@@ -109,7 +109,7 @@ fn text_of(alloc: Global, lines: &[Line]) -> Result<Vec<u8>, AllocError>
 
 /// The portion with its text. Its lines are dropped then, or else kept, where memory ran out.
 fn written(alloc: Global, lines: Vec<Line>) -> TextPart
-    ensures { part_text result ≡ lines_text lines.items }
+    ensures { portion_text result ≡ lines_text lines.items }
 {
     match text_of(alloc, &lines) {
         Ok(text) => TextPart {
@@ -125,7 +125,7 @@ fn written(alloc: Global, lines: Vec<Line>) -> TextPart
 
 /// Writes the part at the end.
 fn put_part(alloc: Global, out: &mut Text, part: TextPart) -> Result<(), AllocError>
-    ensures { OnOk result (out.new ≡ out.old ++ part_text part) }
+    ensures { OnOk result (out.new ≡ out.old ++ portion_text part) }
 {
     let TextPart { text, lines } = part;
     out.push(text)?;
@@ -133,7 +133,7 @@ fn put_part(alloc: Global, out: &mut Text, part: TextPart) -> Result<(), AllocEr
 }
 
 fn put_parts(alloc: Global, out: &mut Text, parts: Vec<TextPart>) -> Result<(), AllocError>
-    ensures { OnOk result (out.new ≡ out.old ++ flat_map part_text parts.items) }
+    ensures { OnOk result (out.new ≡ out.old ++ flat_map portion_text parts.items) }
 {
     for part in parts {
         put_part(alloc, out, part)?;
@@ -157,7 +157,7 @@ pub(crate) fn put_portions<R: Threads + Sync>(
         rt,
         portions,
         &|portion: Vec<Line>| -> TextPart
-            ensures { part_text result ≡ lines_text portion.items }
+            ensures { portion_text result ≡ lines_text portion.items }
         { written(alloc, portion) },
     )?;
     put_parts(alloc, out, parts)

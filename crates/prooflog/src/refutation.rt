@@ -5,7 +5,7 @@ ghost use Rattle.std.specs.List.{list_all};
 ghost use Rattle.refutations.specs.Proofs.{is_tree, are_numbered};
 ghost use Rattle.trimming.specs.Needed.{are_named};
 ghost use Rattle.prooflog.specs.Trims.{trimmed_of};
-ghost use Rattle.prooflog.specs.Refutations.{IsRefutation, IsSmall, is_line_in_range, is_depth, depths, waiting_after};
+ghost use Rattle.prooflog.specs.Refutations.{IsRefutation, IsSmallRefutation, is_line_in_range, is_depth, depths, waiting_after};
 
 use refutations::{LARGEST_NUMBER, Line, Node, ProofTree};
 use std::alloc::{AllocError, AllocFailed, Global};

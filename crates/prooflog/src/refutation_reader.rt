@@ -5,8 +5,8 @@ ghost use Rattle.std.specs.List.{list_all};
 ghost use Rattle.plaintext.specs.TextLines.{text_lines};
 ghost use Rattle.plaintext.specs.Fronts.{to_end};
 ghost use Rattle.refutations.specs.Proofs.{ProofLine, is_tree, are_numbered};
-ghost use Rattle.prooflog.specs.Refutations.{item_line, items, a_proof, a_node, the_tree, is_line_in_range, IsSmall, IsRefutation};
-ghost use Rattle.prooflog.specs.parts.Reading.{words_of, capped, counts_words, opening, above_tree, FitsAbove, HasFaultAfter, LinesSoFar};
+ghost use Rattle.prooflog.specs.Refutations.{item_line, items, a_proof, a_node, the_tree, is_line_in_range, IsSmallRefutation, IsRefutation};
+ghost use Rattle.prooflog.specs.parts.Reading.{words_of, capped, counts_words, opening_lines, above_tree, FitsAbove, HasFaultAfter, LinesSoFar};
 
 use crate::ahead::Ahead;
 use crate::fault::EvidenceFault;
@@ -59,7 +59,7 @@ fn read_lines<'a>(
     ensures in_range { IfOk result (λ found. IsTrue (list_all is_line_in_range found.0.items)) }
     ensures few { IfOk result (λ found. length found.0.items ≤ 1000000) }
     ensures fault { IfErr result (λ fault. (version : Version) (v c : ℕ) → v ≤ 2147483647 → c ≤ 2147483647 →
-        HasFaultAfter (opening version v c) bytes.now fault) }
+        HasFaultAfter (opening_lines version v c) bytes.now fault) }
 {
     let Ahead {
         mut lines,
@@ -99,7 +99,7 @@ fn is_beyond(count: usize, depth: u32) -> bool
 fn read_nodes(alloc: Global, bytes: &[u8], first: u32) -> Result<Vec<Node>, EvidenceFault>
     requires { first ≤ 1000004 }
     ensures cut { IfOk result (λ nodes. text_lines bytes.now ≡ to_end (map item_line (map a_node nodes.items))) }
-    ensures small { IfOk result (λ nodes. IsSmall [] nodes.items) }
+    ensures small { IfOk result (λ nodes. IsSmallRefutation [] nodes.items) }
     ensures numbered { IfOk result (λ nodes. IsTrue (are_numbered nodes.items)) }
     ensures tree { IfOk result (λ nodes. IsTrue (is_tree nodes.items)) }
     ensures fault { IfErr result (λ fault. (version : Version) (v c : ℕ) (lines : List ProofLine) →
@@ -151,7 +151,7 @@ pub fn read_refutation<'a>(
     ensures counts { IfOk result (λ r. (r.version ≡ version) × (r.variables ≡ variables) × (r.clauses ≡ clauses)) }
     ensures limits { IfOk result (λ r. IsRefutation r) }
     ensures cut { IfOk result (λ r. text_lines bytes.now ≡ to_end (map item_line (items r))) }
-    ensures fault { IfErr result (λ fault. HasFaultAfter (opening version variables clauses) bytes.now fault) }
+    ensures fault { IfErr result (λ fault. HasFaultAfter (opening_lines version variables clauses) bytes.now fault) }
 {
     let (lines, rest) = match read_lines(alloc, bytes, before) {
         Ok(found) => found,

@@ -5,7 +5,7 @@ ghost use Rattle.std.specs.Option.{option_copied};
 ghost use Rattle.prooflog.specs.declared.step.WrittenStep.{WrittenStep};
 ghost use Rattle.prooflog.specs.Steps.{step_words, step_line, buffered_words, IsStepInRange, AreCallsInRange, written};
 ghost use Rattle.prooflog.specs.parts.Reading.{words_of, words_after, capped_step};
-ghost use Rattle.prooflog.specs.Reading.{find_word, find_step};
+ghost use Rattle.prooflog.specs.Reading.{find_word, written_find_step};
 
 use crate::words::cut_word;
 use plaintext::{is_word, number_of, put_number};
@@ -33,7 +33,7 @@ pub fn find_word(sees: bool) -> &'static str
 }
 
 fn find_step(sees: bool, send: u32, finder: u32) -> WrittenStep
-    ensures { result ≡ find_step sees send finder }
+    ensures { result ≡ written_find_step sees send finder }
 {
     if sees {
         return WrittenStep::See {
@@ -176,7 +176,7 @@ fn put_issue(out: &mut Vec<u8>, rank: u32, buffered: bool) -> Result<(), AllocEr
 /// calls, from 1: a probe sees the send, a taker is matched with it. The only error is want of
 /// memory; a beginning of the line may stand there then.
 pub fn put_find(out: &mut Vec<u8>, sees: bool, send: u32, finder: u32) -> Result<(), AllocError>
-    ensures { OnOk result (out.new.items ≡ out.old.items ++ step_line (find_step sees send finder)) }
+    ensures { OnOk result (out.new.items ≡ out.old.items ++ step_line (written_find_step sees send finder)) }
 {
     out.extend_from_slice(find_word(sees).as_bytes())?;
     out.push(b' ')?;

@@ -13,7 +13,7 @@ use Rattle.prooflog.specs.declared.refutation.Version.TheVariants.{One, Two}
 use Rattle.prooflog.specs.Trims.{IsTrimmed}
 use Rattle.checker.proofs.Shorter.{refuted_trimmed}
 use Rattle.checker.specs.Headline.{IsNeverStuck}
-use Rattle.checker.specs.Verdicts.{IsRefutedBy, Refutes, HasFormula}
+use Rattle.checker.specs.Verdicts.{IsRefutedBy, RefutesProgram, HasFormula}
 use Rattle.checker.proofs.Headlines.{refuted_are_never_stuck}
 use Rattle.pool.specs.Evidence.{IsAssembled}
 use Rattle.pool.specs.States.{PoolState}
@@ -21,13 +21,13 @@ use Rattle.prover.specs.declared.answer.Answer.{Answer}
 use Rattle.prover.specs.declared.answer.Answer.TheVariants as answers
 use Rattle.prover.specs.Answers.{CanFinish, FinishesIfUnknown}
 use Rattle.encode.specs.Encodings.{EncodedProgram}
-use Rattle.prover.specs.parts.Searches.{HasFinishedRun, IsEvidenceOn, IsFormulaOf, IsOver}
+use Rattle.prover.specs.parts.Searches.{HasRunThatFinishes, IsEvidenceOn, IsFormulaOf, IsOver}
 
 -- the text of a refutation of the program's formula, and what it says
 pub refuted : (text evidence : List ℕ) (p : MpiProgram) (claim : ClaimedRefutation) → IsTextOf text p → IsEvidenceText evidence (Refutation claim) → IsRefutedBy p claim
-    → IsNeverStuck text × Refutes text evidence
+    → IsNeverStuck text × RefutesProgram text evidence
 refuted text evidence p claim is_text is_evidence by =
-    let refutes : Refutes text evidence = record { p = p; claim = claim; text = is_text; refutation = is_evidence; holds = by } in
+    let refutes : RefutesProgram text evidence = record { p = p; claim = claim; text = is_text; refutation = is_evidence; holds = by } in
     (refuted_are_never_stuck text evidence refutes, refutes)
 
 -- what a pool assembles
@@ -56,7 +56,7 @@ finishes budget text (answers.NoDeadlock evidence) can = tt
 finishes budget text (answers.Deadlock evidence) can = tt
 finishes budget text (answers.Refused reason) can = tt
 
-pub can_finish : (text : List ℕ) (p : MpiProgram) → IsTextOf text p → HasFinishedRun p → CanFinish text
+pub can_finish : (text : List ℕ) (p : MpiProgram) → IsTextOf text p → HasRunThatFinishes p → CanFinish text
 can_finish text p is_text has = record { p = p; steps = has.0; text = is_text; finished = has.1 }
 
 -- the formula that is made of the program of a text

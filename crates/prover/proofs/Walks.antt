@@ -16,13 +16,13 @@ use Rattle.callorder.specs.Programs.{MpiProgram, call_at, is_probe, kind_holds}
 use Rattle.semantics.specs.declared.state.Step.{Step}
 use Rattle.semantics.specs.declared.state.Step.TheVariants.{Issue, Match, See}
 use Rattle.semantics.specs.RunEnds.{IsFinishedRun}
-use Rattle.semantics.specs.Configurations.{is_open, IsConfigurationOf}
+use Rattle.semantics.specs.Configurations.{is_open_call, IsConfigurationOf}
 use Rattle.semantics.specs.Machine.{Configuration, opening, after, after_all, is_issued, is_matched, is_rank_finished, can_issue_next, CanFind, IsEnabled, IsRun, IsStuckRun}
 use Rattle.semantics.specs.StuckParts.{NoIssue}
 use Rattle.semantics.proofs.Lengths.{runs_are_short}
 use Rattle.semantics.proofs.Runs.{after_all-push, IsRun-push, IsRun-at}
 use Rattle.run_laws.specs.Places.{find_step}
-use Rattle.prover.specs.parts.Walks.{IsWalk, NothingButSees, NothingEnabled, NoFindBy, NoIssueOf, finds, is_other, is_open_send, is_open_send_call, is_open_finder, is_open_finder_call}
+use Rattle.prover.specs.parts.Walks.{IsWalk, NothingButSees, NoStepEnabled, NoFindBy, NoIssueBy, finds, is_other, is_open_send, is_open_send_call, is_open_finder, is_open_finder_call}
 use Rattle.prover.proofs.Elements.{contains_below}
 
 pub now_more : (m : Configuration) (steps next : List Step) (step : Step) (s t : Configuration) → s ≡ after_all m steps → t ≡ after s step → next ≡ steps ++ step ∷ [] → t ≡ after_all m next
@@ -57,7 +57,7 @@ is_held (Some other) rank e = ap (λ (x : ℕ). Some x) (eqb-true other rank (tr
 
 -- no call can be issued where none of these ranks can issue, nor the one that is held back
 no_issue : (p : MpiProgram) (m : Configuration) (held : Option ℕ) (ranks : List ℕ) → IsConfigurationOf p m → IsPermutation (filter (is_other held) (range_with_len 0 p.ranks)) ranks
-    → ((rank : ℕ) → Contains ranks rank → NoIssueOf p m rank) → ((rank : ℕ) → held ≡ Some rank → NoIssueOf p m rank) → NoIssue p m
+    → ((rank : ℕ) → Contains ranks rank → NoIssueBy p m rank) → ((rank : ℕ) → held ≡ Some rank → NoIssueBy p m rank) → NoIssue p m
 no_issue p m held ranks of others others_wait held_waits rank buffered can =
     let below : rank < p.ranks = omega (arith, issues_in_range p m rank buffered (slice_get m.next rank) refl can, of.next) in
     elim (either (is_other held rank)) [
@@ -67,12 +67,12 @@ no_issue p m held ranks of others others_wait held_waits rank buffered can =
 
 -- nothing but a see is enabled where no rank can issue and nothing can be matched
 pub nothing_but_sees : (p : MpiProgram) (m : Configuration) (held : Option ℕ) (ranks : List ℕ) → IsConfigurationOf p m → IsPermutation (filter (is_other held) (range_with_len 0 p.ranks)) ranks
-    → ((rank : ℕ) → Contains ranks rank → NoIssueOf p m rank) → ((rank : ℕ) → held ≡ Some rank → NoIssueOf p m rank) → NoFindBy p m false → NothingButSees p m
+    → ((rank : ℕ) → Contains ranks rank → NoIssueBy p m rank) → ((rank : ℕ) → held ≡ Some rank → NoIssueBy p m rank) → NoFindBy p m false → NothingButSees p m
 nothing_but_sees p m held ranks of others others_wait held_waits no_match =
     record { issues = no_issue p m held ranks of others others_wait held_waits; matches = no_match }
 
 -- no step is enabled where no probe can see a message either
-pub nothing_enabled : (p : MpiProgram) (m : Configuration) → NothingButSees p m → NoFindBy p m true → NothingEnabled p m
+pub nothing_enabled : (p : MpiProgram) (m : Configuration) → NothingButSees p m → NoFindBy p m true → NoStepEnabled p m
 nothing_enabled p m rest no_see (Issue rank buffered) can = rest.issues rank buffered can
 nothing_enabled p m rest no_see (Match s t) can = rest.matches s t can
 nothing_enabled p m rest no_see (See s f) can = no_see s f can
@@ -86,7 +86,7 @@ finds_where : (sees : Bool) (kind : Kind ℕ) → is_some (pattern_of kind) ≡ 
 finds_where true kind some is = is
 finds_where false kind some is = and_from (is_some (pattern_of kind)) (not (is_probe_kind kind)) some (ap not is)
 
-module _ (p : MpiProgram) (m : Configuration) (sees : Bool) (s f : ℕ) (send_open : is_open p m s ≡ true) (finder_open : is_open p m f ≡ true) where
+module _ (p : MpiProgram) (m : Configuration) (sees : Bool) (s f : ℕ) (send_open : is_open_call p m s ≡ true) (finder_open : is_open_call p m f ≡ true) where
   both_open : (a b : Option Call) → call_at p s ≡ a → call_at p f ≡ b → both_hold fits a b ≡ true → kind_holds is_probe_kind b ≡ sees
       → (s < length p.calls) × (is_open_send_call p m s a ≡ true) × (f < length p.calls) × (is_open_finder_call p m sees f b ≡ true)
   both_open None b at_s at_f fit kind = absurd cc
@@ -94,9 +94,9 @@ module _ (p : MpiProgram) (m : Configuration) (sees : Bool) (s f : ℕ) (send_op
   both_open (Some x) (Some y) at_s at_f fit kind =
       let some = between_some x.rank (message_of x.kind) y.rank (pattern_of y.kind) fit in (
         slice_get_within p.calls s x at_s,
-        and_from (is_some (message_of x.kind)) (is_open p m s) some.0 send_open,
+        and_from (is_some (message_of x.kind)) (is_open_call p m s) some.0 send_open,
         slice_get_within p.calls f y at_f,
-        and_from (finds sees y.kind) (is_open p m f) (finds_where sees y.kind some.1 kind) finder_open,
+        and_from (finds sees y.kind) (is_open_call p m f) (finds_where sees y.kind some.1 kind) finder_open,
       )
 
 not_matched : (b : Bool) → b ≡ false → not b ≡ true
@@ -118,8 +118,8 @@ both_listed : (p : MpiProgram) (m : Configuration) (sees : Bool) (s f : ℕ) →
 both_listed p m sees s f enabled =
     let parts = find_parts p m sees s f enabled in
     let can = parts.1 in
-    let send_open : is_open p m s ≡ true = and_from (is_issued p m s) (not (is_matched m s)) can.send_issued (not_matched (is_matched m s) can.send_open) in
-    let finder_open : is_open p m f ≡ true = and_from (is_issued p m f) (not (is_matched m f)) can.finder_issued (not_matched (is_matched m f) can.finder_open) in
+    let send_open : is_open_call p m s ≡ true = and_from (is_issued p m s) (not (is_matched m s)) can.send_issued (not_matched (is_matched m s) can.send_open) in
+    let finder_open : is_open_call p m f ≡ true = and_from (is_issued p m f) (not (is_matched m f)) can.finder_issued (not_matched (is_matched m f) can.finder_open) in
     both_open p m sees s f send_open finder_open (call_at p s) (call_at p f) refl refl can.fit parts.0
 
 -- each finder that may find a send is listed

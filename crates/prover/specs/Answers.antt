@@ -9,7 +9,7 @@ use Rattle.semantics.specs.Machine.{IsStuckRun}
 use Rattle.checker.specs.declared.reason.Reason.{Reason}
 use Rattle.checker.specs.declared.reason.Reason.TheVariants as reasons
 use Rattle.checker.specs.Headline.{IsNeverStuck, Shows}
-use Rattle.checker.specs.Verdicts.{Refutes, HasFormula, HasNoFormula, IsProgramReason}
+use Rattle.checker.specs.Verdicts.{RefutesProgram, HasFormula, HasNoFormula, IsProgramReason}
 use Rattle.prover.specs.declared.answer.Answer.{Answer}
 use Rattle.prover.specs.declared.answer.Answer.TheVariants as answers
 use Rattle.prover.specs.declared.ends.WalkEnds.{WalkEnds}
@@ -25,11 +25,11 @@ HasNoFormulaText program reason = IsProgramReason program reason ⊎ ((p : MpiPr
 -- A program is refused for a fault of its own text, or as one whose formula is beyond a limit, and
 -- never for want of memory. Where no answer is known, the reason is want of memory; or the text is
 -- a program's, whose formula is within the limits.
-abbrev pub Answers : List ℕ → Answer → Type 0
-Answers program (answers.NoDeadlock evidence) = IsNeverStuck program × Refutes program evidence
-Answers program (answers.Deadlock evidence) = Shows program evidence
-Answers program (answers.Unknown why) = (why ≡ whys.Memory) ⊎ ((p : MpiProgram) × IsTextOf program p × HasFormula p)
-Answers program (answers.Refused reason) = HasNoFormulaText program reason × (reason ≢ reasons.Memory)
+abbrev pub IsAnswer : List ℕ → Answer → Type 0
+IsAnswer program (answers.NoDeadlock evidence) = IsNeverStuck program × RefutesProgram program evidence
+IsAnswer program (answers.Deadlock evidence) = Shows program evidence
+IsAnswer program (answers.Unknown why) = (why ≡ whys.Memory) ⊎ ((p : MpiProgram) × IsTextOf program p × HasFormula p)
+IsAnswer program (answers.Refused reason) = HasNoFormulaText program reason × (reason ≢ reasons.Memory)
 
 -- some run of the program ends with all ranks finished
 pub record CanFinish (program : List ℕ) : Type 0 where
@@ -47,7 +47,7 @@ pub record CanHang (program : List ℕ) : Type 0 where
 
 -- Where some walk is told to have ended stuck, some run of the program ends stuck; where some is
 -- told to have ended finished, some run ends with all ranks finished. One of the two is told.
-pub record AreEnds (program : List ℕ) (ends : WalkEnds) : Type 0 where
+pub record AreWalkEnds (program : List ℕ) (ends : WalkEnds) : Type 0 where
   pub hangs : IsTrue ends.stuck → CanHang program
   pub finishes : IsTrue ends.finished → CanFinish program
   pub some : IsTrue (ends.stuck || ends.finished)

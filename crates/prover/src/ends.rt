@@ -2,7 +2,7 @@
 
 ghost use Rattle.std.specs.Prelude.{◌≡◌, ◌||◌, IfOk, IfErr, IsTrue};
 ghost use Rattle.checker.specs.Verdicts.{IsProgramReason};
-ghost use Rattle.prover.specs.Answers.{AreEnds};
+ghost use Rattle.prover.specs.Answers.{AreWalkEnds};
 ghost use Rattle.prover.specs.Ends.{AreEndsOf};
 
 use crate::explore::is_stuck;
@@ -95,7 +95,7 @@ fn ends_of(alloc: Global, program: &LongProgram, until: Until) -> Result<WalkEnd
 /// has ranks, and five more. Where no walk of a kind is told, there may still be such a run. The
 /// text of no program is refused for its first fault; the only other refusal is want of memory.
 pub fn walk_ends(alloc: Global, program: &[u8], until: Until) -> Result<WalkEnds, Reason>
-    ensures ends { IfOk result (AreEnds program.now) }
+    ensures ends { IfOk result (AreWalkEnds program.now) }
     ensures reason { IfErr result (IsProgramReason program.now) }
 {
     let known = match program_of(alloc, program) {

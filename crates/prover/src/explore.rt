@@ -3,7 +3,7 @@
 ghost use Rattle.std.specs.Prelude.{◌↔◌, IfNone, IfOk, IfSome, IsTrue};
 ghost use Rattle.semantics.specs.RunEnds.{IsFinishedRun};
 ghost use Rattle.semantics.specs.Machine.{IsStuckRun};
-ghost use Rattle.prover.specs.parts.Searches.{HasFinishedRun};
+ghost use Rattle.prover.specs.parts.Searches.{HasRunThatFinishes};
 
 use crate::manner::{CHANCES, CHANCES_BEHIND, by_chance, manner_at, manners, unbuffered};
 use crate::walk::{walk, walk_along};
@@ -27,7 +27,7 @@ pub fn is_stuck(alloc: Global, program: &LongProgram, steps: &[Step]) -> Result<
 /// finished.
 pub fn stuck_walk(alloc: Global, program: &LongProgram) -> Result<Option<Vec<Step>>, AllocError>
     ensures stuck { IfOk result (λ found. IfSome found (λ steps. IsStuckRun program.now steps.items)) }
-    ensures none { IfOk result (λ found. IfNone found (HasFinishedRun program.now)) }
+    ensures none { IfOk result (λ found. IfNone found (HasRunThatFinishes program.now)) }
 {
     for turn in 0..manners(program.ranks()) {
         let steps = walk(alloc, program, manner_at(turn))?;

@@ -4,10 +4,10 @@ ghost use Rattle.std.specs.Prelude.{◌≡◌, ℕ, List, IfErr, IfNone, IfOk, I
 ghost use Rattle.callorder.specs.Programs.{MpiProgram};
 ghost use Rattle.callorder.specs.Resolving.{IsTextOf};
 ghost use Rattle.checker.specs.Verdicts.{HasFormula};
-ghost use Rattle.prover.specs.Answers.{Answers, FinishesIfUnknown, HasNoFormulaText};
+ghost use Rattle.prover.specs.Answers.{IsAnswer, FinishesIfUnknown, HasNoFormulaText};
 ghost use Rattle.formula.specs.Numbering.{formula_of};
-ghost use Rattle.pool.specs.Evidence.{IsUndecided};
-ghost use Rattle.prover.specs.parts.Searches.{HasFinishedRun, IsEvidenceOn, IsOver, IsUnknownFor, unnoted};
+ghost use Rattle.pool.specs.Evidence.{IsUndecidedPool};
+ghost use Rattle.prover.specs.parts.Searches.{HasRunThatFinishes, IsEvidenceOn, IsOver, IsUnknownFor, unnoted};
 
 use crate::answer::Answer;
 use crate::explore::stuck_walk;
@@ -37,7 +37,7 @@ fn told_refutation<R: Threads + Sync>(
     refutation: Refutation,
     parts: usize,
 ) -> Answer
-    ensures { (p : MpiProgram) (text : List ℕ) → IsEvidenceOn p (Evidence.Refutation refutation) → IsTextOf text p → Answers text result }
+    ensures { (p : MpiProgram) (text : List ℕ) → IsEvidenceOn p (Evidence.Refutation refutation) → IsTextOf text p → IsAnswer text result }
 {
     match write_evidence_in(rt, alloc, Evidence::Refutation(refutation), parts) {
         Ok(text) => Answer::NoDeadlock(text),
@@ -48,7 +48,7 @@ fn told_refutation<R: Threads + Sync>(
 /// The answer of a schedule, for each program on which it is an evidence.
 fn told_schedule<R: Threads + Sync>(rt: &R, alloc: Global, schedule: Schedule) -> Answer
     ensures answer { (p : MpiProgram) (text : List ℕ) → IsEvidenceOn p (Evidence.Schedule schedule) →
-        IsTextOf text p → Answers text result }
+        IsTextOf text p → IsAnswer text result }
     ensures finishes { (budget : ℕ) (text : List ℕ) → FinishesIfUnknown budget text result }
 {
     match write_evidence_in(rt, alloc, Evidence::Schedule(schedule), 1) {
@@ -59,7 +59,7 @@ fn told_schedule<R: Threads + Sync>(rt: &R, alloc: Global, schedule: Schedule) -
 
 /// The answer of an evidence, of which a refutation is written in so many portions.
 fn tell<R: Threads + Sync>(rt: &R, alloc: Global, evidence: Evidence, parts: usize) -> Answer
-    ensures { (p : MpiProgram) (text : List ℕ) → IsEvidenceOn p evidence → IsTextOf text p → Answers text result }
+    ensures { (p : MpiProgram) (text : List ℕ) → IsEvidenceOn p evidence → IsTextOf text p → IsAnswer text result }
 {
     match evidence {
         Evidence::Refutation(refutation) => told_refutation(rt, alloc, refutation, parts),
@@ -88,7 +88,7 @@ fn tell_trimmed<R: Threads + Sync>(
     mut evidence: Evidence,
     parts: usize,
 ) -> Answer
-    ensures { (p : MpiProgram) (text : List ℕ) → HasFormula p → IsEvidenceOn p evidence → IsTextOf text p → Answers text result }
+    ensures { (p : MpiProgram) (text : List ℕ) → HasFormula p → IsEvidenceOn p evidence → IsTextOf text p → IsAnswer text result }
 {
     match shorten(alloc, &mut evidence) {
         Ok(()) => tell(rt, alloc, evidence, parts),
@@ -114,8 +114,8 @@ fn answer_of<R: Threads + Sync>(
     parts: usize,
 ) -> Answer
     requires { IsOver pool.held }
-    ensures answer { (text : List ℕ) → IsTextOf text pool.held.program → Answers text result }
-    ensures undecided { IsUndecided pool.held → IsUnknownFor pool.held.reasons was_short result }
+    ensures answer { (text : List ℕ) → IsTextOf text pool.held.program → IsAnswer text result }
+    ensures undecided { IsUndecidedPool pool.held → IsUnknownFor pool.held.reasons was_short result }
 {
     let noted = pool.status().why;
     match pool.into_evidence(alloc) {
@@ -127,9 +127,9 @@ fn answer_of<R: Threads + Sync>(
 
 /// The answer of the walks, where one of them ends stuck or memory runs out.
 fn walk<R: Threads + Sync>(rt: &R, alloc: Global, program: &Program) -> Option<Answer>
-    ensures some { IfSome result (λ answer. (text : List ℕ) → IsTextOf text program.now → Answers text answer) }
+    ensures some { IfSome result (λ answer. (text : List ℕ) → IsTextOf text program.now → IsAnswer text answer) }
     ensures finishes { IfSome result (λ answer. (budget : ℕ) (text : List ℕ) → FinishesIfUnknown budget text answer) }
-    ensures none { IfNone result (HasFinishedRun program.now) }
+    ensures none { IfNone result (HasRunThatFinishes program.now) }
 {
     match stuck_walk(alloc, program) {
         Ok(Some(steps)) => {
@@ -151,7 +151,7 @@ fn answer_over<G: Gate + Sync, R: Threads + Wait + Sync>(
 ) -> Answer
     requires formula { encoded.formula ≡ formula_of encoded.program }
     requires within { HasFormula encoded.program }
-    ensures { (text : List ℕ) → IsTextOf text encoded.program → Answers text result }
+    ensures { (text : List ℕ) → IsTextOf text encoded.program → IsAnswer text result }
 {
     gate.formed(encoded.formula().len());
     match pool_of(rt, alloc, encoded, options, gate) {
@@ -168,7 +168,7 @@ fn search<G: Gate + Sync, R: Threads + Wait + Sync>(
     options: Options,
     gate: &G,
 ) -> Result<Answer, Reason>
-    ensures answer { IfOk result (λ answer. (text : List ℕ) → IsTextOf text program → Answers text answer) }
+    ensures answer { IfOk result (λ answer. (text : List ℕ) → IsTextOf text program → IsAnswer text answer) }
     ensures reason { IfErr result (λ reason. (text : List ℕ) → IsTextOf text program → HasNoFormulaText text reason) }
 {
     match formula_of(rt, alloc, program) {
@@ -186,7 +186,7 @@ fn walk_then_search<G: Gate + Sync, R: Threads + Wait + Sync>(
     options: Options,
     gate: &G,
 ) -> Result<Answer, Reason>
-    ensures answer { IfOk result (Answers text.now) }
+    ensures answer { IfOk result (IsAnswer text.now) }
     ensures finishes { IfOk result (FinishesIfUnknown options.budget text.now) }
     ensures reason { IfErr result (HasNoFormulaText text.now) }
 {
@@ -234,7 +234,7 @@ pub fn prove<G: Gate + Sync, R: Threads + Wait + Sync>(
     options: Options,
     gate: &G,
 ) -> Answer
-    ensures answers { Answers program.now result }
+    ensures answers { IsAnswer program.now result }
     ensures finishes { FinishesIfUnknown options.budget program.now result }
 {
     match walk_then_search(rt, alloc, program, options, gate) {

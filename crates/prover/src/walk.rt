@@ -5,7 +5,7 @@ ghost use Rattle.std.specs.List.{range_with_len};
 ghost use Rattle.semantics.specs.Configurations.{IsConfigurationOf};
 ghost use Rattle.semantics.specs.Machine.{IsEnabled};
 ghost use Rattle.run_laws.specs.Places.{find_step};
-ghost use Rattle.prover.specs.parts.Walks.{IsWalk, NothingButSees, NothingEnabled, NoFindBy, NoIssueOf, finds, is_open_finder, is_open_send, is_other};
+ghost use Rattle.prover.specs.parts.Walks.{IsWalk, NothingButSees, NoStepEnabled, NoFindBy, NoIssueBy, finds, is_open_finder, is_open_send, is_other};
 
 use crate::manner::{Manner, next_chance};
 use callorder::{Kind, LongProgram};
@@ -62,7 +62,7 @@ fn is_other(held_back: Option<u32>, rank: u32) -> bool
 /// The issue of this rank, where one is enabled: buffered or not as is wanted, if that is allowed.
 fn issue_of(program: &LongProgram, state: &State, rank: u32, buffers: bool) -> Option<Step>
     ensures some { IfSome result (IsEnabled program.now state.now) }
-    ensures none { IfNone result (NoIssueOf program.now state.now rank) }
+    ensures none { IfNone result (NoIssueBy program.now state.now rank) }
 {
     let wanted = Step::Issue {
         rank,
@@ -84,7 +84,7 @@ fn issue_of(program: &LongProgram, state: &State, rank: u32, buffers: bool) -> O
 /// The first enabled issue of these ranks.
 fn next_issue(program: &LongProgram, state: &State, ranks: &[u32], buffers: bool) -> Option<Step>
     ensures some { IfSome result (IsEnabled program.now state.now) }
-    ensures none { IfNone result ((rank : ℕ) → Contains ranks.now rank → NoIssueOf program.now state.now rank) }
+    ensures none { IfNone result ((rank : ℕ) → Contains ranks.now rank → NoIssueBy program.now state.now rank) }
 {
     for rank in ranks {
         let issue = issue_of(program, state, *rank, buffers);
@@ -274,7 +274,7 @@ fn next_step(
     requires of { IsConfigurationOf program.now state.now }
     requires others { IsPermutation (filter (is_other manner.held_back) (range_with_len 0 program.now.ranks)) ranks.now }
     ensures some { IfOk result (λ found. IfSome found (IsEnabled program.now state.now)) }
-    ensures none { IfOk result (λ found. IfNone found (NothingEnabled program.now state.now)) }
+    ensures none { IfOk result (λ found. IfNone found (NoStepEnabled program.now state.now)) }
 {
     if !manner.sees_last {
         let seeing = next_find(alloc, program, state, true, manner)?;
@@ -303,7 +303,7 @@ fn step_along(
     requires of { IsConfigurationOf program.now state.now }
     requires others { IsPermutation (filter (is_other manner.held_back) (range_with_len 0 program.now.ranks)) ranks.now }
     ensures some { IfOk result (λ found. IfSome found (IsEnabled program.now state.now)) }
-    ensures none { IfOk result (λ found. IfNone found (NothingEnabled program.now state.now)) }
+    ensures none { IfOk result (λ found. IfNone found (NoStepEnabled program.now state.now)) }
 {
     if let Some(step) = wanted {
         if state.enabled(program, step) {

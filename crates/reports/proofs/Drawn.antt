@@ -12,12 +12,12 @@ use Rattle.semantics.specs.Machine.{IsStuckRun}
 use Rattle.semantics.specs.declared.state.Step.{Step}
 use Rattle.options.specs.declared.form.Form.{Form}
 use Rattle.options.specs.declared.form.Form.TheVariants as forms
-use Rattle.explain.specs.Often.{BeginsWith, often_line}
+use Rattle.explain.specs.Often.{BeginsWithBytes, often_line}
 use Rattle.frequency.specs.declared.judging.Frequency.{Frequency}
 use Rattle.frequency.specs.declared.judging.Frequency.TheVariants as frequency
 use Rattle.frequency.specs.Frequencies.{IsFrequency}
 use Rattle.htmlpage.specs.Page.{IsPage}
-use Rattle.reports.specs.Explanations.{IsDrawnFrom, IsNumbered, IsRunDrawn, SaysHowOften, TellsSizes, well_steps, marks_of, sizes_text}
+use Rattle.reports.specs.Explanations.{IsDrawnFrom, TellsNumbers, IsRunDrawn, SaysHowOften, TellsSizes, well_steps, marks_of, sizes_text}
 
 pub run_drawn : (r : Result (Vec ℕ) AllocError) (form : Form) (text : List ℕ) (source : ProgramText) (p : MpiProgram) (steps : List Step) → IsTextOfWithin long text p
     → IsStuckRun p steps → IsTextWithin long text source → IfOk r (λ told. IsDrawnFrom form text source p steps told.items)
@@ -26,13 +26,13 @@ run_drawn (Ok told) form text source p steps of stuck is told_is = (p, of, stuck
 run_drawn (Err e) form text source p steps of stuck is told_is = told_is
 
 pub sizes_told : (r : Result (Vec ℕ) AllocError) (form : Form) (text : List ℕ) (p : MpiProgram) → IsTextOfWithin long text p
-    → IfOk r (λ told. IsNumbered form p (sizes_text (marks_of form) p) told.items) → IfOk r (λ told. TellsSizes form text told.items)
+    → IfOk r (λ told. TellsNumbers form p (sizes_text (marks_of form) p) told.items) → IfOk r (λ told. TellsSizes form text told.items)
 sizes_told (Ok told) form text p of is = (p, of, is)
 sizes_told (Err e) form text p of is = is
 
 -- a text that begins with the line of how often the program gets stuck says that
 pub says_how_often : (r : Result (Vec ℕ) AllocError) (p : MpiProgram) (often : Frequency) → IsFrequency p often
-    → IfOk r (λ told. BeginsWith (often_line often) told.items) → IfOk r (λ told. SaysHowOften p told.items)
+    → IfOk r (λ told. BeginsWithBytes (often_line often) told.items) → IfOk r (λ told. SaysHowOften p told.items)
 says_how_often (Ok told) p often is begins = (often, is, begins)
 says_how_often (Err e) p often is begins = begins
 
@@ -44,7 +44,7 @@ ends_well p frequency.Unknown is = tt
 
 -- a page of such a text, which draws the run, and the one that ends well
 pub page_drawn : (r : Result (Vec ℕ) AllocError) (text : List ℕ) (source : ProgramText) (p : MpiProgram) (steps : List Step) (often : Frequency) (words : List ℕ)
-    → IsFrequency p often → BeginsWith (often_line often) words
+    → IsFrequency p often → BeginsWithBytes (often_line often) words
     → IfOk r (λ page. IsPage text source p steps (well_steps often) words page.items) → IfOk r (λ page. IsDrawnFrom forms.Page text source p steps page.items)
 page_drawn (Ok page) text source p steps often words is says shown = record { often = often; is_often = is; words = words; says = says; is_page = shown }
 page_drawn (Err e) text source p steps often words is says shown = shown

@@ -11,7 +11,7 @@ use Rattle.prooflog.specs.Grammar.{IsEvidenceText}
 use Rattle.prooflog.specs.Trims.{HasStrayNumber, IsNotRefutation, IsTrimmed, trimmed_of}
 use Rattle.prooflog.proofs.Exact.{one_value}
 use Rattle.prooflog.proofs.TrimLaws.{never_both}
-use Rattle.checker.specs.Verdicts.{IsRefutedBy, Refutes}
+use Rattle.checker.specs.Verdicts.{IsRefutedBy, RefutesProgram}
 use Rattle.checker.proofs.OneVerdicts.{same_claim}
 use Rattle.checker.proofs.Shorter.{refuted_trimmed}
 use Rattle.reports.specs.Trimming.{IsWhyUntrimmed, Shortens, ShortenedRefute, lines_of, trim_why}

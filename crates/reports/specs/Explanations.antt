@@ -13,7 +13,7 @@ use Rattle.semantics.specs.declared.state.Step.{Step}
 use Rattle.charts.specs.Chart.{chart_of}
 use Rattle.explain.specs.Losing.{TellsLosses}
 use Rattle.explain.specs.Messages.{IsMessages}
-use Rattle.explain.specs.Often.{BeginsWith, often_line}
+use Rattle.explain.specs.Often.{BeginsWithBytes, often_line}
 use Rattle.frequency.specs.declared.judging.Frequency.{Frequency}
 use Rattle.frequency.specs.declared.judging.Frequency.TheVariants as often
 use Rattle.frequency.specs.Frequencies.{IsFrequency}
@@ -25,8 +25,8 @@ use Rattle.prooflog.specs.Grammar.{IsEvidenceText}
 use Rattle.prooflog.specs.Refutations.{ClaimedRefutation}
 use Rattle.prooflog.specs.declared.evidence.Evidence.TheVariants.{Refutation}
 use Rattle.checker.specs.Headline.{Shows}
-use Rattle.checker.specs.Verdicts.{IsReason, Refutes}
-use Rattle.reports.specs.Sizes.{choices, messages, open_sends, wildcards}
+use Rattle.checker.specs.Verdicts.{IsReason, RefutesProgram}
+use Rattle.reports.specs.Sizes.{wildcards_with_choice, messages, open_sends, wildcards}
 use Rattle.reports.specs.declared.explained.Explained.{Explained}
 use Rattle.reports.specs.declared.explained.Explained.TheVariants as told
 
@@ -113,7 +113,7 @@ abbrev pub open_line : Marks → MpiProgram → List ℕ
 open_line m p = count_line m (codes "sends that may be buffered or not") (open_sends p.policy p.calls)
 
 abbrev pub choice_lines : Marks → MpiProgram → List ℕ
-choice_lines m p = count_line m (codes "wildcards with a choice") (choices p.calls) ++ open_line m p
+choice_lines m p = count_line m (codes "wildcards with a choice") (wildcards_with_choice p.calls) ++ open_line m p
 
 -- the lines on a refutation tell its numbers of variables, clauses, lines and leaves
 abbrev pub claim_lines : Marks → ClaimedRefutation → List ℕ
@@ -132,7 +132,7 @@ counts_text form = numbers_text (marks_of form)
 
 -- the text begins with how often the program gets stuck, which is so
 abbrev pub SaysHowOften : MpiProgram → List ℕ → Type 0
-SaysHowOften p text = (often : Frequency) × IsFrequency p often × BeginsWith (often_line often) text
+SaysHowOften p text = (often : Frequency) × IsFrequency p often × BeginsWithBytes (often_line often) text
 
 -- the steps of a run that ends well, where one is known
 abbrev pub well_steps : Frequency → Option (List Step)
@@ -146,7 +146,7 @@ pub record IsExplainedPage (program : List ℕ) (source : ProgramText) (p : MpiP
   pub often : Frequency
   pub is_often : IsFrequency p often
   pub words : List ℕ
-  pub says : BeginsWith (often_line often) words
+  pub says : BeginsWithBytes (often_line often) words
   pub is_page : IsPage program source p steps (well_steps often) words page
 
 -- the text draws the run of these steps, as a chart or as a picture, where the form is one of
@@ -178,7 +178,7 @@ IsRunDrawn form program steps text = (p : MpiProgram) × IsTextOfWithin long pro
 -- of a larger one how many there are.
 abbrev pub wildcard_line : Marks → MpiProgram → List ℕ
 wildcard_line m p =
-    if nat_lt 1024 (length p.calls) then count_line m (codes "wildcards") (wildcards p.calls) else count_line m (codes "wildcards with a choice") (choices p.calls)
+    if nat_lt 1024 (length p.calls) then count_line m (codes "wildcards") (wildcards p.calls) else count_line m (codes "wildcards with a choice") (wildcards_with_choice p.calls)
 
 -- the text on a program without a refutation tells its numbers
 abbrev pub sizes_text : Marks → MpiProgram → List ℕ
@@ -186,23 +186,23 @@ sizes_text m p = m.begin ++ (size_lines m p ++ (wildcard_line m p ++ (open_line 
 
 -- what a form adds below the numbers of a program, none of whose runs gets stuck: a text tells the
 -- messages that no receive takes
-abbrev pub IsAdded : Form → MpiProgram → List ℕ → Type 0
-IsAdded forms.Brief p added = TellsLosses p added
-IsAdded forms.Whole p added = TellsLosses p added
-IsAdded forms.Chart p added = added ≡ []
-IsAdded forms.Graph p added = added ≡ []
-IsAdded forms.Picture p added = added ≡ []
-IsAdded forms.Page p added = added ≡ []
-IsAdded forms.Object p added = added ≡ []
-IsAdded forms.Messages p added = added ≡ []
+abbrev pub IsAddedBelow : Form → MpiProgram → List ℕ → Type 0
+IsAddedBelow forms.Brief p added = TellsLosses p added
+IsAddedBelow forms.Whole p added = TellsLosses p added
+IsAddedBelow forms.Chart p added = added ≡ []
+IsAddedBelow forms.Graph p added = added ≡ []
+IsAddedBelow forms.Picture p added = added ≡ []
+IsAddedBelow forms.Page p added = added ≡ []
+IsAddedBelow forms.Object p added = added ≡ []
+IsAddedBelow forms.Messages p added = added ≡ []
 
 -- the text tells these numbers, and below them what the form adds
-abbrev pub IsNumbered : Form → MpiProgram → List ℕ → List ℕ → Type 0
-IsNumbered form p numbers text = (added : List ℕ) × IsAdded form p added × (text ≡ numbers ++ added)
+abbrev pub TellsNumbers : Form → MpiProgram → List ℕ → List ℕ → Type 0
+TellsNumbers form p numbers text = (added : List ℕ) × IsAddedBelow form p added × (text ≡ numbers ++ added)
 
 -- the text tells the numbers of the program of a text of any length
 abbrev pub TellsSizes : Form → List ℕ → List ℕ → Type 0
-TellsSizes form program text = (p : MpiProgram) × IsTextOfWithin long program p × IsNumbered form p (sizes_text (marks_of form) p) text
+TellsSizes form program text = (p : MpiProgram) × IsTextOfWithin long program p × TellsNumbers form p (sizes_text (marks_of form) p) text
 
 -- A text that tells sizes comes where the evidence refutes the program, and tells those of the
 -- program that the one text is of and of the refutation that the other is of; a text on a deadlock
@@ -210,6 +210,6 @@ TellsSizes form program text = (p : MpiProgram) × IsTextOfWithin long program p
 -- reason.
 abbrev pub Explains : Form → List ℕ → List ℕ → Explained → Type 0
 Explains form program evidence (told.NoDeadlock text) =
-    Refutes program evidence × ((p : MpiProgram) × (claim : ClaimedRefutation) × IsTextOf program p × IsEvidenceText evidence (Refutation claim) × IsNumbered form p (counts_text form p claim) text.items)
+    RefutesProgram program evidence × ((p : MpiProgram) × (claim : ClaimedRefutation) × IsTextOf program p × IsEvidenceText evidence (Refutation claim) × TellsNumbers form p (counts_text form p claim) text.items)
 Explains form program evidence (told.Deadlock text) = (shown : Shows program evidence) × IsDrawn form program shown.p shown.steps text.items
 Explains form program evidence (told.Refused reason) = IsReason program evidence reason

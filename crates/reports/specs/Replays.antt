@@ -19,8 +19,8 @@ TellsRun true program p steps text = (source : ProgramText) × IsText program so
 
 -- A replay that ends stuck is one of a schedule that shows a deadlock, and tells its steps. Else it
 -- is told that the evidence is no schedule, or the first reason why it shows none.
-abbrev pub Replays : Bool → List ℕ → List ℕ → Replayed → Type 0
-Replays lines program evidence (replays.Stuck text) =
+abbrev pub TellsReplay : Bool → List ℕ → List ℕ → Replayed → Type 0
+TellsReplay lines program evidence (replays.Stuck text) =
     (shown : Shows program evidence) × TellsRun lines program shown.p shown.steps text.items
-Replays lines program evidence (replays.Refused reason) = IsReason program evidence reason × (is_of_refutation reason ≡ false)
-Replays lines program evidence replays.NotASchedule = IsARefutation program evidence
+TellsReplay lines program evidence (replays.Refused reason) = IsReason program evidence reason × (is_of_refutation reason ≡ false)
+TellsReplay lines program evidence replays.NotASchedule = IsARefutation program evidence

@@ -36,19 +36,19 @@ abbrev pub has_choice : List Call → Call → Bool
 has_choice calls finder = has_star (pattern_of finder.kind) && nat_lt 1 (senders calls finder)
 
 -- how many of the calls are such wildcards
-abbrev pub choices : List Call → ℕ
-choices calls = length (filter (has_choice calls) calls)
+abbrev pub wildcards_with_choice : List Call → ℕ
+wildcards_with_choice calls = length (filter (has_choice calls) calls)
 
-abbrev pub is_standard : Kind ℕ → Bool
-is_standard (Send Standard blocking message) = true
-is_standard _ = false
+abbrev pub is_standard_send : Kind ℕ → Bool
+is_standard_send (Send Standard blocking message) = true
+is_standard_send _ = false
 
 -- how many of the calls are standard sends
-abbrev pub standard_sends : List Call → ℕ
-standard_sends calls = length (filter (λ call. is_standard call.kind) calls)
+abbrev pub count_standard_sends : List Call → ℕ
+count_standard_sends calls = length (filter (λ call. is_standard_send call.kind) calls)
 
 -- how many sends the policy leaves open, so that they may be buffered or not
 abbrev pub open_sends : Policy → List Call → ℕ
-open_sends Any calls = standard_sends calls
+open_sends Any calls = count_standard_sends calls
 open_sends Never calls = 0
 open_sends Always calls = 0

@@ -15,33 +15,33 @@ use Rattle.prooflog.specs.Steps.{step_line, written}
 
 -- the verb of a call of this kind, as a program's text has it; a nonblocking call is one that is
 -- started
-abbrev pub verb_of : Kind ℕ → Verb
-verb_of (Send mode blocking message) = verb.Send mode (not blocking)
-verb_of (Receive blocking pattern) = verb.Receive (not blocking)
-verb_of (MatchedProbe pattern receive) = verb.MatchedProbe
-verb_of (Probe pattern) = verb.Probe
-verb_of (MatchedReceive blocking) = verb.MatchedReceive (not blocking)
-verb_of (Wait operation) = verb.Wait
+abbrev pub verb_of_kind : Kind ℕ → Verb
+verb_of_kind (Send mode blocking message) = verb.Send mode (not blocking)
+verb_of_kind (Receive blocking pattern) = verb.Receive (not blocking)
+verb_of_kind (MatchedProbe pattern receive) = verb.MatchedProbe
+verb_of_kind (Probe pattern) = verb.Probe
+verb_of_kind (MatchedReceive blocking) = verb.MatchedReceive (not blocking)
+verb_of_kind (Wait operation) = verb.Wait
 
 -- the word of a call that exists
 abbrev pub word_of : Option Call → List ℕ
 word_of None = []
-word_of (Some call) = verb_word (verb_of call.kind)
+word_of (Some call) = verb_word (verb_of_kind call.kind)
 
 -- whether the call was issued as a buffered send
-abbrev pub how_issued : Bool → List ℕ
-how_issued false = codes " call "
-how_issued true = codes " buffered call "
+abbrev pub issue_words : Bool → List ℕ
+issue_words false = codes " call "
+issue_words true = codes " buffered call "
 
 -- the line that tells the issue of a call: `issue R call N WORD`, or
 -- `issue R buffered call N WORD`; ranks count from 0, calls from 1
-abbrev pub issue_line : MpiProgram → ℕ → ℕ → Bool → List ℕ
-issue_line p c rank buffered =
-    codes "issue " ++ (numeral rank ++ (how_issued buffered ++ (numeral (c + 1) ++ (codes " " ++ (word_of (call_at p c) ++ codes "\n")))))
+abbrev pub told_issue_line : MpiProgram → ℕ → ℕ → Bool → List ℕ
+told_issue_line p c rank buffered =
+    codes "issue " ++ (numeral rank ++ (issue_words buffered ++ (numeral (c + 1) ++ (codes " " ++ (word_of (call_at p c) ++ codes "\n")))))
 
 -- the line that tells a step in a configuration: that of an issue, `match S T`, or `see S P`
 abbrev pub told_line : MpiProgram → Configuration → Step → List ℕ
-told_line p m (Issue rank buffered) = issue_line p (slice_index m.next rank) rank buffered
+told_line p m (Issue rank buffered) = told_issue_line p (slice_index m.next rank) rank buffered
 told_line p m (Match s t) = step_line (written (Match s t))
 told_line p m (See s f) = step_line (written (See s f))
 

@@ -12,7 +12,7 @@ use Rattle.prooflog.specs.Refutations.{ClaimedRefutation}
 use Rattle.prooflog.specs.Grammar.{IsEvidenceText}
 use Rattle.prooflog.specs.Fault.{HasEvidenceFault}
 use Rattle.prooflog.specs.Trims.{trimmed_of}
-use Rattle.checker.specs.Verdicts.{Refutes}
+use Rattle.checker.specs.Verdicts.{RefutesProgram}
 use Rattle.reports.specs.declared.trimmed.Shortened.{Shortened}
 use Rattle.reports.specs.declared.trimmed.Untrimmed.{Untrimmed}
 use Rattle.reports.specs.declared.trimmed.Untrimmed.TheVariants as untrimmed
@@ -55,4 +55,4 @@ IsWhyUntrimmed evidence untrimmed.NotRefutation = (steps : List Step) × IsEvide
 -- Each program that the one text refutes, the other does.
 abbrev pub ShortenedRefute : Type 0
 ShortenedRefute =
-    (program evidence : List ℕ) (s : Shortened) → Shortens evidence s → Refutes program evidence → Refutes program s.text.items
+    (program evidence : List ℕ) (s : Shortened) → Shortens evidence s → RefutesProgram program evidence → RefutesProgram program s.text.items

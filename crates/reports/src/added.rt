@@ -2,7 +2,7 @@
 
 ghost use Rattle.std.specs.Prelude.{◌≡◌, ◌++◌, IfOk, string_bytes};
 ghost use Rattle.explain.specs.Losing.{TellsLosses};
-ghost use Rattle.reports.specs.Explanations.{IsAdded, IsNumbered};
+ghost use Rattle.reports.specs.Explanations.{IsAddedBelow, TellsNumbers};
 
 use crate::decided::source_of;
 use callorder::LongProgram;
@@ -30,7 +30,7 @@ fn added(
     program: &LongProgram,
     form: Form,
 ) -> Result<String, AllocError>
-    ensures { IfOk result (λ told. IsAdded form program.now (string_bytes told)) }
+    ensures { IfOk result (λ told. IsAddedBelow form program.now (string_bytes told)) }
 {
     match form {
         Form::Brief | Form::Whole => losses(alloc, text, program),
@@ -49,7 +49,7 @@ pub fn numbered(
     form: Form,
     numbers: Vec<u8>,
 ) -> Result<Vec<u8>, AllocError>
-    ensures { IfOk result (λ told. IsNumbered form program.now numbers.items told.items) }
+    ensures { IfOk result (λ told. TellsNumbers form program.now numbers.items told.items) }
 {
     let added = added(alloc, text, program, form)?;
     let mut told = numbers;

@@ -2,8 +2,8 @@
 
 ghost use Rattle.std.specs.Prelude.{◌≡◌, ◌++◌, IfOk, OnOk, codes};
 ghost use Rattle.reports.specs.Explanations.{choice_lines, claim_lines, count_line, counts_text, leaves, marks_of, open_line, size_lines, sizes_text, wildcard_line};
-ghost use Rattle.reports.specs.parts.Numbers.{AreTold, IsTold, line_of, lines_of, marked_text, texts_of};
-ghost use Rattle.reports.specs.Sizes.{choices};
+ghost use Rattle.reports.specs.parts.Numbers.{AreLinesOfCounts, IsLineOfCount, line_of_count, lines_of, marked_text, texts_of};
+ghost use Rattle.reports.specs.Sizes.{wildcards_with_choice};
 
 use crate::sizes::{choices, messages, open_sends, wildcards};
 use callorder::{Call, LongProgram, Program};
@@ -88,7 +88,7 @@ pub struct Count {
 
 /// The numbers of a program's size.
 fn size_counts(program: &LongProgram) -> [Count; 3]
-    ensures { AreTold result (λ m. size_lines m program.now) }
+    ensures { AreLinesOfCounts result (λ m. size_lines m program.now) }
 {
     let calls = program.calls();
     [
@@ -109,7 +109,7 @@ fn size_counts(program: &LongProgram) -> [Count; 3]
 
 /// How many wildcards have a choice.
 fn choice_count(calls: &[Call]) -> Count
-    ensures { IsTold result (λ m. count_line m (codes "wildcards with a choice") (choices calls.now)) }
+    ensures { IsLineOfCount result (λ m. count_line m (codes "wildcards with a choice") (wildcards_with_choice calls.now)) }
 {
     Count {
         name: "wildcards with a choice",
@@ -119,7 +119,7 @@ fn choice_count(calls: &[Call]) -> Count
 
 /// How many wildcards have a choice, or of many calls how many there are.
 fn wildcard_count(program: &LongProgram) -> Count
-    ensures { IsTold result (λ m. wildcard_line m program.now) }
+    ensures { IsLineOfCount result (λ m. wildcard_line m program.now) }
 {
     let calls = program.calls();
     if calls.len() > FEW_CALLS {
@@ -134,7 +134,7 @@ fn wildcard_count(program: &LongProgram) -> Count
 
 /// How many sends the policy leaves open.
 fn open_count(program: &LongProgram) -> Count
-    ensures { IsTold result (λ m. open_line m program.now) }
+    ensures { IsLineOfCount result (λ m. open_line m program.now) }
 {
     Count {
         name: "sends that may be buffered or not",
@@ -144,21 +144,21 @@ fn open_count(program: &LongProgram) -> Count
 
 /// The numbers of what a program leaves open.
 fn choice_counts(program: &LongProgram) -> [Count; 2]
-    ensures { AreTold result (λ m. choice_lines m program.now) }
+    ensures { AreLinesOfCounts result (λ m. choice_lines m program.now) }
 {
     [choice_count(program.calls()), open_count(program)]
 }
 
 /// The same, where there may be too many calls to tell choices.
 fn wildcard_counts(program: &LongProgram) -> [Count; 2]
-    ensures { AreTold result (λ m. wildcard_line m program.now ++ open_line m program.now) }
+    ensures { AreLinesOfCounts result (λ m. wildcard_line m program.now ++ open_line m program.now) }
 {
     [wildcard_count(program), open_count(program)]
 }
 
 /// The numbers of a refutation.
 fn claim_counts(refutation: &Refutation) -> [Count; 4]
-    ensures { AreTold result (λ m. claim_lines m refutation.now) }
+    ensures { AreLinesOfCounts result (λ m. claim_lines m refutation.now) }
 {
     [
         Count {
@@ -187,7 +187,7 @@ fn put_count(
     marks: &Marks,
     count: Count,
 ) -> Result<(), AllocError>
-    ensures { OnOk result (out.new.items ≡ out.old.items ++ line_of (texts_of marks.now) count) }
+    ensures { OnOk result (out.new.items ≡ out.old.items ++ line_of_count (texts_of marks.now) count) }
 {
     let number = count.number.to_string(alloc)?;
     put_parts(
@@ -226,7 +226,7 @@ fn marked_text(
     choices: &[Count],
     claim: &[Count],
 ) -> Result<Vec<u8>, AllocError>
-    ensures { IfOk result (λ text. text.items ≡ marked_text (texts_of marks.now) sizes.now choices.now claim.now) }
+    ensures { IfOk result (λ text. text.items ≡ marked_text (texts_of marks.now) sizes.now wildcards_with_choice.now claim.now) }
 {
     let mut out = Vec::new(alloc);
     put_text(&mut out, marks.begin)?;

@@ -4,7 +4,7 @@ ghost use Rattle.std.specs.Prelude.{◌<◌, ◌≡◌, ◌≤◌, IfOk, Ok};
 ghost use Rattle.callorder.specs.Resolving.{IsTextOf};
 ghost use Rattle.semantics.specs.Machine.{IsStuckRun};
 ghost use Rattle.checker.specs.Verdicts.{AreShown, IsJudged};
-ghost use Rattle.reports.specs.Explanations.{Explains, IsDrawnFrom, IsNumbered, counts_text};
+ghost use Rattle.reports.specs.Explanations.{Explains, IsDrawnFrom, TellsNumbers, counts_text};
 
 use crate::added::numbered;
 use crate::counts::counts_text;
@@ -72,7 +72,7 @@ fn refuted_text(
     form: Form,
 ) -> Result<Vec<u8>, AllocError>
     ensures { IfOk result (λ told.
-        IsNumbered form refuted.now.program (counts_text form refuted.now.program refuted.now.refutation)
+        TellsNumbers form refuted.now.program (counts_text form refuted.now.program refuted.now.refutation)
         told.items) }
 {
     let program: &LongProgram = &refuted.program;

@@ -2,7 +2,7 @@
 
 ghost use Rattle.std.specs.Prelude.{◌≡◌};
 ghost use Rattle.callorder.specs.Calls.{pattern_of};
-ghost use Rattle.reports.specs.Sizes.{choices, has_choice, has_star, is_message, is_standard, messages, open_sends, senders, standard_sends, wildcards};
+ghost use Rattle.reports.specs.Sizes.{wildcards_with_choice, has_choice, has_star, is_message, is_standard_send, messages, open_sends, senders, count_standard_sends, wildcards};
 
 use callorder::{Call, Kind, Mode, Pattern, Policy, is_fit};
 
@@ -56,7 +56,7 @@ fn has_choice(calls: &[Call], finder: &Call) -> bool
 
 /// How many of the calls have a star, and more than one send that fits.
 pub fn choices(calls: &[Call]) -> usize
-    ensures { result ≡ choices calls.now }
+    ensures { result ≡ wildcards_with_choice calls.now }
 {
     calls
         .iter()
@@ -66,7 +66,7 @@ pub fn choices(calls: &[Call]) -> usize
 
 /// Whether a call is a standard send.
 fn is_standard(kind: &Kind) -> bool
-    ensures { result ≡ is_standard kind.now }
+    ensures { result ≡ is_standard_send kind.now }
 {
     match kind {
         Kind::Send {
@@ -79,7 +79,7 @@ fn is_standard(kind: &Kind) -> bool
 
 /// How many of the calls are standard sends.
 fn standard_sends(calls: &[Call]) -> usize
-    ensures { result ≡ standard_sends calls.now }
+    ensures { result ≡ count_standard_sends calls.now }
 {
     calls.iter().filter(|call| is_standard(&call.kind)).count()
 }

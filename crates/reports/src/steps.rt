@@ -3,8 +3,8 @@
 ghost use Rattle.std.specs.Prelude.{◌≡◌, ◌++◌, ◌≤◌, IfOk, IsSome, OnOk, length, slice_get, true};
 ghost use Rattle.calltext.specs.Readable.{IsText};
 ghost use Rattle.semantics.specs.Machine.{IsEnabled, IsRun, IsStuckRun, opening};
-ghost use Rattle.reports.specs.Replays.{Replays, TellsRun};
-ghost use Rattle.reports.specs.Telling.{how_issued, issue_line, told_line, told_run, verb_of};
+ghost use Rattle.reports.specs.Replays.{TellsReplay, TellsRun};
+ghost use Rattle.reports.specs.Telling.{issue_words, told_issue_line, told_line, told_run, verb_of_kind};
 
 use callorder::{Kind, LongProgram};
 use calltext::Verb;
@@ -28,7 +28,7 @@ pub enum Replayed {
 
 /// The verb of a call, as a program's text has it.
 fn verb_of(kind: &Kind) -> Verb
-    ensures { result ≡ verb_of kind.now }
+    ensures { result ≡ verb_of_kind kind.now }
 {
     match *kind {
         Kind::Send { mode, blocking, .. } => Verb::Send {
@@ -44,7 +44,7 @@ fn verb_of(kind: &Kind) -> Verb
 }
 
 fn how_issued(buffered: bool) -> &'static str
-    ensures { result.now ≡ how_issued buffered }
+    ensures { result.now ≡ issue_words buffered }
 {
     if buffered {
         " buffered call "
@@ -63,7 +63,7 @@ fn put_issue(
 ) -> Result<(), AllocError>
     requires there { IsSome (slice_get program.now.calls place) }
     requires few { length program.now.calls ≤ 1024 }
-    ensures { OnOk result (out.new.items ≡ out.old.items ++ issue_line program.now place rank buffered) }
+    ensures { OnOk result (out.new.items ≡ out.old.items ++ told_issue_line program.now place rank buffered) }
 {
     let _calls = program.calls();
     let Some(call) = program.call(place) else {
@@ -139,7 +139,7 @@ fn text_of(alloc: Global, text: &[u8], run: &StuckRun, lines: bool) -> Result<Ve
 /// numbers of their calls, or by the lines that these stand in. What isn't a run of the program
 /// that ends stuck is refused as `verdict` refuses it.
 pub fn replay(alloc: Global, program: &[u8], evidence: &[u8], lines: bool) -> Replayed
-    ensures { Replays lines program.now evidence.now result }
+    ensures { TellsReplay lines program.now evidence.now result }
 {
     let run = match stuck_run_of(alloc, program, evidence) {
         Ok(run) => run,

@@ -6,7 +6,7 @@ ghost use Rattle.callorder.specs.Resolving.{IsTextOf, IsTextOfWithin};
 ghost use Rattle.semantics.specs.RunEnds.{IsFinishedRun};
 ghost use Rattle.semantics.specs.Machine.{IsStuckRun};
 ghost use Rattle.frequency.specs.Frequencies.{IsFrequency};
-ghost use Rattle.explain.specs.Often.{BeginsWith, often_line};
+ghost use Rattle.explain.specs.Often.{BeginsWithBytes, often_line};
 ghost use Rattle.reports.specs.Explanations.{IsDrawnFrom, SaysHowOften, well_steps};
 
 use crate::deciders::deciders_of;
@@ -217,7 +217,7 @@ fn words_of(
 ) -> Result<Vec<u8>, AllocError>
     requires stuck { IsStuckRun program.now steps.now }
     requires frequency { IsFrequency program.now frequency.now }
-    ensures { IfOk result (λ told. BeginsWith (often_line frequency.now) told.items) }
+    ensures { IfOk result (λ told. BeginsWithBytes (often_line frequency.now) told.items) }
 {
     let decided = asked_text(alloc, text, asked)?;
     explanation(

@@ -11,7 +11,7 @@ use Rattle.formula.specs.declared.facts.Event.TheVariants.{Issue as issue_of, Ma
 use Rattle.formula.specs.declared.facts.Fact.TheVariants.{Issued as issued, Matched as matched, Unfinished as unfinished}
 use Rattle.formula.specs.declared.facts.Statement.TheVariants.{Holds as is_true, Fails as is_false, Earlier as is_earlier}
 use Rattle.formula.specs.declared.facts.Condition.TheVariants.{IfMatched as if_matched}
-use Rattle.formula.specs.Families.{without_later_sends, seen_before_taken, see_clauses, SymbolicClause, sends_of, is_standard, previous, last_calls, rank_of, fetch_of, receive_on_handle, when_returned, where_returned, issued_after, issued_after_return_of, handle_is_received_on, is_fetched_before, is_returned_before, issued_before_match, without_later_pairs, send_is_matched_before, taker_is_matched_before, pair_does_not_wait, issue_does_not_wait, buffered_under, standard_sends, said, last_families, families, calls_are_matched_once, some_rank_is_unfinished, no_pair_waits, no_issue_waits}
+use Rattle.formula.specs.Families.{without_later_sends, seen_before_taken, see_clauses, SymbolicClause, sends_of, is_standard, previous_of_rank, last_calls, rank_of, fetch_of, receive_on_handle, when_returned, where_returned, issued_after, issued_after_return_of, handle_is_received_on, is_fetched_before, is_returned_before, issued_before_match, without_later_pairs, send_is_matched_before, taker_is_matched_before, pair_does_not_wait, issue_does_not_wait, buffered_under, standard_sends, said, last_families, families, calls_are_matched_once, some_rank_is_unfinished, no_pair_waits, no_issue_waits}
 use Rattle.formula.proofs.Named.{families_of_order, families_of_end}
 use Rattle.formula.proofs.Elements.{Each, each_append, each_parts, each_both, each_from_all, each_filter, each_range}
 use Rattle.formula_from_run.specs.Worlds.{World, is_right, clause_holds, clauses_hold}
@@ -345,8 +345,8 @@ without_unfinished p P h =
 
 -- What they say. Nothing is said of whether some rank is unfinished.
 pub record Consequences (p : MpiProgram) (world : World) : Type 0 where
-  pub order : (c d : ℕ) → c < length p.calls → previous p c ≡ Some d → IsAfter world c d
-  pub returns : (c d : ℕ) → c < length p.calls → previous p c ≡ Some d → Hold world (is_returned_before p c (when_returned p d))
+  pub order : (c d : ℕ) → c < length p.calls → previous_of_rank p c ≡ Some d → IsAfter world c d
+  pub returns : (c d : ℕ) → c < length p.calls → previous_of_rank p c ≡ Some d → Hold world (is_returned_before p c (when_returned p d))
   pub issues : (s t : ℕ) → are_fit p s t ≡ true → world.has (matched s t) ≡ true → IssuedBefore world s t
   pub one_taker : (s t u : ℕ) → takes p s t ≡ true → takes p s u ≡ true → world.has (matched s t) ≡ true → world.has (matched s u) ≡ true → t ≡ u
   pub one_send : (s u t : ℕ) → are_fit p s t ≡ true → are_fit p u t ≡ true → world.has (matched s t) ≡ true → world.has (matched u t) ≡ true → s ≡ u
@@ -354,8 +354,8 @@ pub record Consequences (p : MpiProgram) (world : World) : Type 0 where
   pub takers : (s t e : ℕ) → are_fit p s t ≡ true → world.has (matched s t) ≡ true → e < t → are_of_one_rank p e t ≡ true → takes p s e ≡ true → ReceivedBefore p world e t
   pub seen : (s f t : ℕ) → sees p s f ≡ true → takes p s t ≡ true → world.has (matched s f) ≡ true → world.has (matched s t) ≡ true → world.clock (match_of f) < world.clock (match_of t)
   pub pairs : (s t : ℕ) → are_fit p s t ≡ true → world.has (issued s) ≡ true → world.has (issued t) ≡ true → IsSent p world s ⊎ IsReceived p world t
-  pub first : (c : ℕ) → c < length p.calls → previous p c ≡ None → world.has (issued c) ≡ true
-  pub next : (c d : ℕ) → c < length p.calls → previous p c ≡ Some d → Hold world (where_returned p d (is_true (issued c)))
+  pub first : (c : ℕ) → c < length p.calls → previous_of_rank p c ≡ None → world.has (issued c) ≡ true
+  pub next : (c d : ℕ) → c < length p.calls → previous_of_rank p c ≡ Some d → Hold world (where_returned p d (is_true (issued c)))
   pub policy : (s : ℕ) → s < length p.calls → is_standard p s ≡ true → Hold world (buffered_under p.policy s)
 
 issued_first : (world : World) (p : MpiProgram) (c : ℕ) → Hold world (issue_does_not_wait p c None) → world.has (issued c) ≡ true
@@ -387,8 +387,8 @@ consequences p world each =
     let at = λ (clauses : ℕ → List SymbolicClause) (family : list_all (clause_holds world) (flat_map clauses (places p)) ≡ true) (c : ℕ) (below : c < length p.calls). at_call p (clause_holds world) clauses family c below in
     let says = pair_says p world each in
     record {
-      order = λ c d below e. is_after world c d (subst (λ (z : Option ℕ). Hold world (issued_after c z)) e (at (λ c. issued_after c (previous p c)) each.0 c below));
-      returns = λ c d below e. subst (λ (z : Option ℕ). Hold world (issued_after_return_of p c z)) e (at (λ c. issued_after_return_of p c (previous p c)) each.1.0 c below);
+      order = λ c d below e. is_after world c d (subst (λ (z : Option ℕ). Hold world (issued_after c z)) e (at (λ c. issued_after c (previous_of_rank p c)) each.0 c below));
+      returns = λ c d below e. subst (λ (z : Option ℕ). Hold world (issued_after_return_of p c z)) e (at (λ c. issued_after_return_of p c (previous_of_rank p c)) each.1.0 c below);
       issues = λ s t fit m. issued_before world s t (says s t fit).before m;
       one_taker = one_taker p world each.1.1.1.0;
       one_send = λ s u t fit fits m n. one_send p world s u t (says s t fit).later (says u t fits).later fit fits m n;
@@ -396,7 +396,7 @@ consequences p world each =
       takers = λ s t e fit m below same fits. at_earlier_taker p world s t e (says s t fit).takers m below same fits;
       seen = λ s f t seen taken m n. taken_before p world s f t (see_says p world s f (at_see p world each s f seen)).seen taken m n;
       pairs = λ s t fit i j. one_is_matched p world s t (says s t fit).waits i j;
-      first = λ c below e. issued_first world p c (subst (λ (z : Option ℕ). Hold world (issue_does_not_wait p c z)) e (at (λ c. issue_does_not_wait p c (previous p c)) each.1.1.1.1.1.1.1.0 c below));
-      next = λ c d below e. subst (λ (z : Option ℕ). Hold world (issue_does_not_wait p c z)) e (at (λ c. issue_does_not_wait p c (previous p c)) each.1.1.1.1.1.1.1.0 c below);
+      first = λ c below e. issued_first world p c (subst (λ (z : Option ℕ). Hold world (issue_does_not_wait p c z)) e (at (λ c. issue_does_not_wait p c (previous_of_rank p c)) each.1.1.1.1.1.1.1.0 c below));
+      next = λ c d below e. subst (λ (z : Option ℕ). Hold world (issue_does_not_wait p c z)) e (at (λ c. issue_does_not_wait p c (previous_of_rank p c)) each.1.1.1.1.1.1.1.0 c below);
       policy = λ s below standard. kept_at (λ other. Hold world (buffered_under p.policy other)) (is_standard p) (length p.calls) (each_from_all (clause_holds world) (buffered_under p.policy) (standard_sends p) each.1.1.1.1.1.1.1.1.0) s below standard;
     }

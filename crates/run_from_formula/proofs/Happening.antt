@@ -8,7 +8,7 @@ use Rattle.candidates.specs.Pairs.{places}
 use Rattle.formula.specs.declared.facts.Event.{Event}
 use Rattle.formula.specs.declared.facts.Event.TheVariants.{Issue as issue_of, Match as match_of}
 use Rattle.formula.specs.Facts.{is_same_event}
-use Rattle.formula.specs.Families.{events, is_finder}
+use Rattle.formula.specs.Families.{events, finds_message}
 use Rattle.formula.proofs.Elements.{Each, each_append, each_map, each_from, each_mono, each_filter, each_range, and_both, any_append_left, any_append_right, any_map, any_filter, any_mono, any_range}
 use Rattle.formula_from_run.specs.Worlds.{World}
 use Rattle.run_from_formula.specs.Schedules.{happens, sorted_by}
@@ -19,7 +19,7 @@ use Rattle.run_from_formula.proofs.Sorted.{any_sorted, each_sorted, IsOnce, once
 -- the event is one of the program
 abbrev pub IsListed : MpiProgram → Event → Type 0
 IsListed p (issue_of c) = c < length p.calls
-IsListed p (match_of t) = (t < length p.calls) × (is_finder p t ≡ true)
+IsListed p (match_of t) = (t < length p.calls) × (finds_message p t ≡ true)
 
 -- the event stands in the list
 abbrev pub is_in : List Event → Event → Bool
@@ -27,22 +27,22 @@ is_in es e = list_any (is_same_event e) es
 
 all_listed : (p : MpiProgram) → Each (IsListed p) (events p)
 all_listed p =
-    each_append (IsListed p) (map issue_of (places p)) (map match_of (filter (is_finder p) (places p)))
+    each_append (IsListed p) (map issue_of (places p)) (map match_of (filter (finds_message p) (places p)))
     (each_map (IsListed p) issue_of (places p) (each_range (λ c. c < length p.calls) 0 (length p.calls) (λ k from below. omega (arith, below))))
-    (each_map (IsListed p) match_of (filter (is_finder p) (places p))
-    (each_filter (λ t. IsListed p (match_of t)) (is_finder p) (places p)
-    (each_range (λ t. is_finder p t ≡ true → IsListed p (match_of t)) 0 (length p.calls) (λ k from below taker. (omega (arith, below), taker)))))
+    (each_map (IsListed p) match_of (filter (finds_message p) (places p))
+    (each_filter (λ t. IsListed p (match_of t)) (finds_message p) (places p)
+    (each_range (λ t. finds_message p t ≡ true → IsListed p (match_of t)) 0 (length p.calls) (λ k from below taker. (omega (arith, below), taker)))))
 
 listed_in : (p : MpiProgram) (e : Event) → IsListed p e → is_in (events p) e ≡ true
 listed_in p (issue_of c) below =
-    any_append_left (is_same_event (issue_of c)) (map issue_of (places p)) (map match_of (filter (is_finder p) (places p)))
+    any_append_left (is_same_event (issue_of c)) (map issue_of (places p)) (map match_of (filter (finds_message p) (places p)))
     (any_map (is_same_event (issue_of c)) issue_of (places p) ∙
     any_range (λ d. c == d) 0 (length p.calls) c (omega arith) (omega (arith, below)) (eq-eqb c c refl))
 listed_in p (match_of t) listed =
-    any_append_right (is_same_event (match_of t)) (map issue_of (places p)) (map match_of (filter (is_finder p) (places p)))
-    (any_map (is_same_event (match_of t)) match_of (filter (is_finder p) (places p)) ∙
-    (any_filter (λ d. t == d) (is_finder p) (places p) ∙
-    any_range (λ d. is_finder p d && t == d) 0 (length p.calls) t (omega arith) (omega (arith, listed.0)) (and_both (is_finder p t) (t == t) listed.1 (eq-eqb t t refl))))
+    any_append_right (is_same_event (match_of t)) (map issue_of (places p)) (map match_of (filter (finds_message p) (places p)))
+    (any_map (is_same_event (match_of t)) match_of (filter (finds_message p) (places p)) ∙
+    (any_filter (λ d. t == d) (finds_message p) (places p) ∙
+    any_range (λ d. finds_message p d && t == d) 0 (length p.calls) t (omega arith) (omega (arith, listed.0)) (and_both (finds_message p t) (t == t) listed.1 (eq-eqb t t refl))))
 
 pub same_event : (e f : Event) → is_same_event e f ≡ true → e ≡ f
 same_event (issue_of c) (issue_of d) h = ap issue_of (eqb-true c d h)
@@ -87,12 +87,12 @@ no_issue_among c (t ∷ ts) = no_issue_among c ts
 
 events_once : (p : MpiProgram) → IsOnce is_same_event (events p)
 events_once p =
-    let takers = filter (is_finder p) (places p) in
+    let takers = filter (finds_message p) (places p) in
     once_append is_same_event (map issue_of (places p)) (map match_of takers)
     (each_map (λ e. list_any (is_same_event e) (map match_of takers) ≡ false) issue_of (places p)
     (each_from (λ c. list_any (is_same_event (issue_of c)) (map match_of takers) ≡ false) (λ c. no_issue_among c takers) (places p)))
     (once_issues (places p) (once_range 0 (length p.calls)))
-    (once_matches takers (once_kept (λ (a b : ℕ). a == b) (is_finder p) (places p) (once_range 0 (length p.calls))))
+    (once_matches takers (once_kept (λ (a b : ℕ). a == b) (finds_message p) (places p) (once_range 0 (length p.calls))))
 
 -- ---- the events that happen, by clock
 

@@ -19,7 +19,7 @@ use Rattle.formula.specs.declared.facts.Fact.TheVariants.{Issued as issued, Buff
 use Rattle.formula.specs.declared.facts.Statement.TheVariants.{Holds as is_true}
 use Rattle.formula.specs.declared.facts.Condition.{Condition}
 use Rattle.formula.specs.declared.facts.Condition.TheVariants.{AtOnce as at_once, IfMatched as if_matched, IfFetched as if_fetched, IfBufferedOrFetched as if_buffered_or_fetched}
-use Rattle.formula.specs.Families.{is_standard, is_standard_call, is_standard_kind, previous, receive_of_call, receive_on_handle, event_of_fetch, when_done, when_done_call, when_done_kind, when_returned, when_returned_call, when_returned_kind, is_returned_before}
+use Rattle.formula.specs.Families.{is_standard, is_standard_call, is_standard_kind, previous_of_rank, receive_of_call, receive_on_handle, event_of_fetch, when_done, when_done_call, when_done_kind, when_returned, when_returned_call, when_returned_kind, is_returned_before}
 use Rattle.formula.proofs.Elements.{Each, or_left, or_right}
 use Rattle.formula_from_run.specs.Worlds.{World}
 use Rattle.formula_from_run.proofs.Matches.{fit_within, no_probe}
@@ -41,7 +41,7 @@ one_rank_both (Some x) (Some y) (Some z) h k =
     let b : z.rank ≡ y.rank = eqb-true z.rank y.rank k in
     eq-eqb y.rank x.rank (sym b ∙ a)
 
-pub previous_is : (p : MpiProgram) (c : ℕ) → are_of_one_rank p c (suc c) ≡ true → previous p (suc c) ≡ Some c
+pub previous_is : (p : MpiProgram) (c : ℕ) → are_of_one_rank p c (suc c) ≡ true → previous_of_rank p (suc c) ≡ Some c
 previous_is p c same = ap (λ (b : Bool). if b then Some c else None) same
 
 -- ---- a send that a condition names is a standard one
@@ -168,7 +168,7 @@ module _ (p : MpiProgram) (world : World) (is : IsProgram p) (says : Consequence
   -- the call before has returned
   pub has_returned : (d : ℕ) → c ≡ suc d → c < length p.calls → are_of_one_rank p d (suc d) ≡ true → world.has (issued c) ≡ true → (is_issued p m d ≡ true) × (is_returned p m d ≡ true)
   has_returned d at below same i =
-      let prev : previous p c ≡ Some d = subst (λ (z : ℕ). previous p z ≡ Some d) (sym at) (previous_is p d same) in
+      let prev : previous_of_rank p c ≡ Some d = subst (λ (z : ℕ). previous_of_rank p z ≡ Some d) (sym at) (previous_is p d same) in
       let d_below : d < length p.calls = omega (arith, at, below) in
       let call = there_within p.calls d d_below in
       let order = says.order c d below prev in

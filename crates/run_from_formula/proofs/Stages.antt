@@ -18,7 +18,7 @@ use Rattle.candidates.specs.Pairs.{places}
 use Rattle.formula.specs.declared.facts.Event.{Event}
 use Rattle.formula.specs.declared.facts.Event.TheVariants.{Issue as issue_of, Match as match_of}
 use Rattle.formula.specs.declared.facts.Fact.TheVariants.{Issued as issued, Buffered as buffered, Matched as matched}
-use Rattle.formula.specs.Families.{is_standard, is_finder, is_finder_call}
+use Rattle.formula.specs.Families.{is_standard, finds_message, call_finds_message}
 use Rattle.formula.proofs.Elements.{Each, and_both, any_filter, any_range}
 use Rattle.formula_from_run.specs.Worlds.{World, is_that}
 use Rattle.formula_from_run.proofs.Matches.{fit_within, is_that-some}
@@ -48,12 +48,12 @@ pattern_there r q None pattern h = absurd (cc)
 pattern_there r q (Some message) None h = absurd (cc)
 pattern_there r q (Some message) (Some pattern) h = refl
 
-taker_there : (x y : Option Call) → both_hold fits x y ≡ true → is_finder_call y ≡ true
+taker_there : (x y : Option Call) → both_hold fits x y ≡ true → call_finds_message y ≡ true
 taker_there None y h = absurd (cc)
 taker_there (Some x) None h = absurd (cc)
 taker_there (Some x) (Some y) h = pattern_there x.rank y.rank (message_of x.kind) (pattern_of y.kind) h
 
-pub fit_taker : (p : MpiProgram) (s t : ℕ) → are_fit p s t ≡ true → is_finder p t ≡ true
+pub fit_taker : (p : MpiProgram) (s t : ℕ) → are_fit p s t ≡ true → finds_message p t ≡ true
 fit_taker p s t fit = taker_there (call_at p s) (call_at p t) fit
 
 -- a matched pair's match happens

@@ -10,7 +10,7 @@ use Rattle.formula.specs.declared.facts.Event.{Event}
 use Rattle.formula.specs.declared.facts.Event.TheVariants.{Issue as issue_of, Match as match_of}
 use Rattle.formula.specs.declared.facts.Fact.TheVariants.{Issued as issued, Buffered as buffered, Matched as matched}
 use Rattle.formula.specs.declared.facts.Meaning.TheVariants.{OfFact as fact}
-use Rattle.formula.specs.Families.{events, place_of, rank_of, is_standard, sends_of}
+use Rattle.formula.specs.Families.{events, place_of_event, rank_of, is_standard, sends_of}
 use Rattle.formula.specs.Numbering.{variable_of}
 use Rattle.formula.specs.Laws.{clock_in}
 use Rattle.formula_from_run.specs.Worlds.{World}
@@ -54,4 +54,4 @@ schedule_of p world = map (step_of p world) (sorted_by world.clock (filter (happ
 
 -- the world that an assignment tells: the values of the facts, and the clocks by their bits
 abbrev pub world_in : MpiProgram → TruthAssignment → World
-world_in p a = record { has = λ x. a (variable_of p (fact x)); clock = λ e. clock_in p a (place_of p e) }
+world_in p a = record { has = λ x. a (variable_of p (fact x)); clock = λ e. clock_in p a (place_of_event p e) }

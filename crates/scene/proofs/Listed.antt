@@ -7,7 +7,7 @@ use Rattle.semantics.specs.declared.state.Step.{Step}
 use Rattle.semantics.specs.Machine.{Configuration, after, after_all}
 use Rattle.scene.specs.declared.acts.Act.{Act}
 use Rattle.scene.specs.Acts.{act_of, acts_from}
-use Rattle.scene.specs.Labels.{Label, rank_of, label_at, labels}
+use Rattle.scene.specs.Labels.{Label, caller_rank, label_at, labels}
 
 -- what the steps so far do, and one more
 acts_push : (m : Configuration) (steps : List Step) (step : Step) → acts_from m (steps ++ step ∷ []) ≡ acts_from m steps ++ act_of (after_all m steps) step ∷ []
@@ -29,6 +29,6 @@ pub labels_more : (lines read : List (List ℕ)) (numbers copied : List ℕ) (ca
     → one ≡ label_at read copied place (get_or items place d).rank → more ≡ told ++ one ∷ [] → told ≡ labels lines numbers calls place → more ≡ labels lines numbers calls (place + 1)
 labels_more lines read numbers copied calls items place d told more one same_lines same_numbers same_calls within is grows so_far =
     let there : Some (get_or items place d) ≡ slice_get calls place = sym (slice_get-get_or items place d within) ∙ ap (λ (cs : List Call). slice_get cs place) same_calls in
-    let it : one ≡ label_at lines numbers place (rank_of (slice_get calls place)) =
-    is ∙ (λ i. label_at (same_lines i) (same_numbers i) place (get_or items place d).rank) ∙ ap (λ (o : Option Call). label_at lines numbers place (rank_of o)) there in
+    let it : one ≡ label_at lines numbers place (caller_rank (slice_get calls place)) =
+    is ∙ (λ i. label_at (same_lines i) (same_numbers i) place (get_or items place d).rank) ∙ ap (λ (o : Option Call). label_at lines numbers place (caller_rank o)) there in
     grows ∙ (λ i. so_far i ++ it i ∷ []) ∙ ap (labels lines numbers calls) (sym (add-one place))

@@ -52,15 +52,15 @@ label_at lines numbers place rank =
       words = shortened 60 (line_at lines (slice_index numbers place)) ++ part_words (line_at lines (slice_index numbers place)) (earlier numbers place);
     }
 
-abbrev pub rank_of : Option Call → ℕ
-rank_of None = 0
-rank_of (Some call) = call.rank
+abbrev pub caller_rank : Option Call → ℕ
+caller_rank None = 0
+caller_rank (Some call) = call.rank
 
 -- the first calls, so many, as they are told
 abbrev pub labels : List (List ℕ) → List ℕ → List Call → ℕ → List Label
 labels lines numbers calls zero = []
 labels lines numbers calls (suc place) =
-    labels lines numbers calls place ++ label_at lines numbers place (rank_of (slice_get calls place)) ∷ []
+    labels lines numbers calls place ++ label_at lines numbers place (caller_rank (slice_get calls place)) ∷ []
 
 -- the calls of a program, in order, as they are told
 abbrev pub call_labels : List ℕ → ProgramText → MpiProgram → List Label

@@ -13,7 +13,7 @@ use Rattle.callorder.specs.declared.calls.Call.{Call}
 use Rattle.sealing.specs.declared.sides.Side.{Side}
 use Rattle.sealing.specs.declared.sides.Wanted.{Wanted}
 use Rattle.sealing.specs.declared.occurrences.Occurrence.{Occurrence}
-use Rattle.sealing.specs.parts.Sides.{wanted_of, side_of, acts_for, same_side, same_wanted, same_occurrence, occurrence_behind, occurrence_there, occurrence_at, AreCounts, AreOccurrences, ArePlaces, IsAsked, AreAsked}
+use Rattle.sealing.specs.parts.Sides.{wanted_of, side_of, acts_for, same_side, same_wanted, same_occurrence, occurrence_behind, occurrence_there, occurrence_at, AreCounts, AreOccurrences, ArePlaces, IsAskedByTaker, AreAsked}
 use Rattle.sealing.proofs.Acts.{acts_so, side_is, side_with}
 use Rattle.phases.proofs.Traffic.{no_more, one_more}
 
@@ -277,7 +277,7 @@ one_asked calls n old new here own at asks change are =
       each = λ c call wanted below there is. each_by c call wanted (same_wanted own wanted) refl below there is;
     }
   where
-    some_by : (wanted : Wanted) (b : Bool) → same_wanted own wanted ≡ b → new wanted ≡ true → IsAsked calls wanted
+    some_by : (wanted : Wanted) (b : Bool) → same_wanted own wanted ≡ b → new wanted ≡ true → IsAskedByTaker calls wanted
     some_by wanted true e is = record { place = n; call = here; there = at; asks = asks ∙ ap Some (wanted_same own wanted e) }
     some_by wanted false e is = are.some wanted (sym (change wanted ∙ ap (λ (z : Bool). cond z true (old wanted)) e) ∙ is)
 

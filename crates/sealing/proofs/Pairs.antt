@@ -18,7 +18,7 @@ use Rattle.knowledge.specs.Knowledge.{with_partners}
 use Rattle.sealing.specs.declared.sides.Side.{Side}
 use Rattle.sealing.specs.declared.sides.Wanted.{Wanted}
 use Rattle.sealing.specs.declared.occurrences.Occurrence.{Occurrence}
-use Rattle.sealing.specs.parts.Sides.{wanted_found, wanted_of, wanted_by, envelope_of, acts_for, occurrence_at, is_exact, opposite, partner_in, AreOccurrences, ArePlaces, IsAsked, AreAsked, HasAllSure}
+use Rattle.sealing.specs.parts.Sides.{wanted_found, wanted_of, wanted_by, envelope_of, acts_for, occurrence_at, is_exact, opposite, partner_in, AreOccurrences, ArePlaces, IsAskedByTaker, AreAsked, HasAllSure}
 use Rattle.sealing.specs.Sure.{HasSurePartners}
 use Rattle.sealing.proofs.Acts.{side_with, sent, taken, senders, takers, side_of_send, side_of_taker, acts_so, sends_so, takes_with_so, wanted_is}
 use Rattle.sealing.proofs.Numbered.{occurrence_with, occurs, occurs_so, one_place}
@@ -90,7 +90,7 @@ fit_wanted p h s t a b wanted at_s at_t sends w to on source tag =
 -- where all takers name the envelope, none asks for its messages by a wildcard
 none_asks : (p : MpiProgram) (h : Envelope) (s : ℕ) (a : Call) (wanted : Wanted) → IsExact p h → call_at p s ≡ Some a → sends_with h a ≡ true
     → wanted.destination ≡ h.destination → wanted.communicator ≡ h.communicator → covers wanted.source h.source ≡ true → covers wanted.tag h.tag ≡ true
-    → IsAsked p.calls wanted → (wanted.source ≡ Some h.source) × (wanted.tag ≡ Some h.tag)
+    → IsAskedByTaker p.calls wanted → (wanted.source ≡ Some h.source) × (wanted.tag ≡ Some h.tag)
 none_asks p h s a wanted exact at_s sends to on source tag asked =
     let w = wants asked.call wanted asked.asks in
     let fit = fit_wanted p h s asked.place a asked.call wanted at_s asked.there sends w to on source tag in

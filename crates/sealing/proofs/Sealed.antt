@@ -10,7 +10,7 @@ use Rattle.semantics.specs.Machine.{Configuration, CanFind, is_matched, is_rank_
 use Rattle.races.proofs.Kept.{Kept}
 use Rattle.races.proofs.Passing.{kept_run}
 use Rattle.phases.specs.CallPlaces.{IsFrom, IsWellFormed, moved_call}
-use Rattle.phases.specs.Cuts.{Cut, IsCut}
+use Rattle.phases.specs.Cuts.{Cut, IsCutInTwo}
 use Rattle.phases.specs.Joining.{cut_between}
 use Rattle.phases.specs.Rests.{behind}
 use Rattle.phases.proofs.Parts.{of_rank, before_from, matched_moved, message_moved, pattern_moved, returned_moved}
@@ -19,9 +19,9 @@ use Rattle.phases.proofs.Clean.{Reached, NoneEarly, at_first, at_second, both_wa
 use Rattle.phases.proofs.Joined.{is_cut}
 use Rattle.phases.proofs.Rests.{front_is_joined}
 use Rattle.sealing.specs.Laws.{OneSealedPhaseMore}
-use Rattle.sealing.specs.Sealing.{IsFoundBefore, IsSealed}
+use Rattle.sealing.specs.Sealing.{IsFoundBeforeFinish, IsSealed}
 
-module _ (p : MpiProgram) (x : Cut) (whole : IsWellFormed p) (one : IsWellFormed x.first) (two : IsWellFormed x.second) (cut : IsCut p x) where
+module _ (p : MpiProgram) (x : Cut) (whole : IsWellFormed p) (one : IsWellFormed x.first) (two : IsWellFormed x.second) (cut : IsCutInTwo p x) where
   -- a rank that has gone past the first part is in the second
   second_as : (r n a b : ℕ) → x.bound r < n → Stage p x one two cut r n a b → InSecond p x one two cut r n a b
   second_as r n a b past (inl at) = absurd (omega (arith, past, at.next, before_bound p x one two cut r a at.has))
@@ -57,7 +57,7 @@ module _ (p : MpiProgram) (x : Cut) (whole : IsWellFormed p) (one : IsWellFormed
             (omega (arith, below, past, ap x.bound own, ap (slice_index m.next) own))
 
     -- but then the finder has found already
-    none_before : IsFoundBefore x.first wf.place ws.call.rank → ⊥
+    none_before : IsFoundBeforeFinish x.first wf.place ws.call.rank → ⊥
     none_before before =
         let matched = before first.steps first.run (ap (λ (z : Configuration). is_rank_finished x.first z ws.call.rank) first.is ∙ finished) in
         let free : is_matched m1 wf.place ≡ false =

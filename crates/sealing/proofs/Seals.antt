@@ -10,7 +10,7 @@ use Rattle.phases.proofs.Counting.{Fit, fit_parts}
 use Rattle.phases.proofs.Clean.{both_ways}
 use Rattle.sealing.specs.Laws.{NoLooseSendSeals}
 use Rattle.sealing.specs.Loose.{IsUntold, loose_of}
-use Rattle.sealing.specs.Sealing.{IsFoundBefore}
+use Rattle.sealing.specs.Sealing.{IsFoundBeforeFinish}
 use Rattle.sealing.proofs.Finishing.{finish_tells}
 
 -- two calls that fit, as the only ones of a program
@@ -58,7 +58,7 @@ no_loose_send_seals p following is is_following ranks never f s finder send at_f
           tag = tag_fits g.pattern.tag g.message.tag g.tag;
         })
 
-    found : g.pattern.source ≡ None → IsFoundBefore p f send.rank
+    found : g.pattern.source ≡ None → IsFoundBeforeFinish p f send.rank
     found any steps run finished = now (is_matched (after_all (opening p) steps) f) refl
       where
         now : (q : Bool) → is_matched (after_all (opening p) steps) f ≡ q → is_matched (after_all (opening p) steps) f ≡ true
@@ -67,6 +67,6 @@ no_loose_send_seals p following is is_following ranks never f s finder send at_f
             absurd (told any (λ e' knows sure justified tells.
             both_ways (is_matched (after_all (opening p) steps) f) (finish_tells p e' knows send.rank f is sure justified tells steps run finished) e))
 
-    by : (q : Bool) → names_source (pattern_of finder.kind) ≡ q → (names_source (pattern_of finder.kind) ≡ true) ⊎ IsFoundBefore p f send.rank
+    by : (q : Bool) → names_source (pattern_of finder.kind) ≡ q → (names_source (pattern_of finder.kind) ≡ true) ⊎ IsFoundBeforeFinish p f send.rank
     by true e = inl e
     by false e = inr (found (any_source g.pattern.source (sym (ap names_source g.finds) ∙ e)))

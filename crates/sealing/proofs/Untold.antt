@@ -24,7 +24,7 @@ use Rattle.sealing.specs.declared.finders.Finder.{Finder}
 use Rattle.sealing.specs.Sure.{HasSurePartners}
 use Rattle.sealing.specs.Loose.{IsOfAnySource, IsUntold, IsLoose, AreLoose}
 use Rattle.sealing.specs.parts.Sides.{HasAllSure}
-use Rattle.sealing.specs.parts.Ends.{IsLastCall, AreLasts, AreFindings, tells_end, tells_finish, finder_with, finder_there, finder_at, sent_to, Lists, IsUntoldBelow, Adds, IsLooseBelow, AreLooseBelow}
+use Rattle.sealing.specs.parts.Ends.{IsLastCall, AreLasts, AreFindings, tells_end, tells_finish, finder_with, finder_there, finder_at, sent_to, ListsEntry, IsUntoldBelow, GainsEntries, IsLooseBelow, AreLooseBelow}
 use Rattle.sealing.proofs.More.{return_more, justified_more}
 use Rattle.sealing.proofs.Numbered.{unless}
 
@@ -144,14 +144,14 @@ module _ (p : MpiProgram) (e : Configuration) (known : List Bool) (lasts : List 
 
 -- ---- lists of what is loose
 
-pub listed_more : (list : List Loose) (one entry : Loose) → Lists (list ++ one ∷ []) entry ↔ (Lists list entry ⊎ (entry ≡ one))
+pub listed_more : (list : List Loose) (one entry : Loose) → ListsEntry (list ++ one ∷ []) entry ↔ (ListsEntry list entry ⊎ (entry ≡ one))
 listed_more list one entry = (there, back)
   where
     only : (k : ℕ) → slice_get (one ∷ []) k ≡ Some entry → entry ≡ one
     only zero e = sym (same_Some one entry e)
     only (suc k) e = absurd (cc)
 
-    there : Lists (list ++ one ∷ []) entry → Lists list entry ⊎ (entry ≡ one)
+    there : ListsEntry (list ++ one ∷ []) entry → ListsEntry list entry ⊎ (entry ≡ one)
     there w = elim (slice_get_of_append list (one ∷ []) w.0 entry w.1) [
       | inl first ↦ inl (w.0, first.0)
       | inr second ↦ inr (only second.0 second.2)
@@ -166,17 +166,17 @@ listed_more list one entry = (there, back)
     end [] = refl
     end (x ∷ xs) = end xs
 
-    back : Lists list entry ⊎ (entry ≡ one) → Lists (list ++ one ∷ []) entry
+    back : ListsEntry list entry ⊎ (entry ≡ one) → ListsEntry (list ++ one ∷ []) entry
     back (inl w) = (w.0, front list (one ∷ []) w.0 w.1)
     back (inr same) = (length list, end list ∙ ap Some (sym same))
 
 module _ (p : MpiProgram) (findings : Findings) (known : List Bool) (finder : Finder) (old : List Loose) where
   -- the rank n is told
   pub told_passed : (n : ℕ) (list : List Loose) → tells_finish p findings known finder.place n ≡ true
-      → Adds old list (IsUntoldBelow p findings known finder n) → Adds old list (IsUntoldBelow p findings known finder (n + 1))
+      → GainsEntries old list (IsUntoldBelow p findings known finder n) → GainsEntries old list (IsUntoldBelow p findings known finder (n + 1))
   told_passed n list on adds entry = (there, back)
     where
-      there : Lists list entry → Lists old entry ⊎ IsUntoldBelow p findings known finder (n + 1) entry
+      there : ListsEntry list entry → ListsEntry old entry ⊎ IsUntoldBelow p findings known finder (n + 1) entry
       there w = elim ((adds entry).0 w) [
         | inl v ↦ inl v
         | inr u ↦ inr (record { rank = u.rank; below = let low = u.below in omega (arith, low); untold = u.untold; is = u.is })
@@ -188,17 +188,17 @@ module _ (p : MpiProgram) (findings : Findings) (known : List Bool) (finder : Fi
           cc (on, off))
       lower u (inr differ) = record { rank = u.rank; below = let low = u.below in omega (arith, low, differ); untold = u.untold; is = u.is }
 
-      back : Lists old entry ⊎ IsUntoldBelow p findings known finder (n + 1) entry → Lists list entry
+      back : ListsEntry old entry ⊎ IsUntoldBelow p findings known finder (n + 1) entry → ListsEntry list entry
       back (inl w) = (adds entry).1 (inl w)
       back (inr u) = (adds entry).1 (inr (lower u (cases_eq u.rank n)))
 
   -- the rank n isn't
   pub untold_added : (n : ℕ) (list : List Loose) → tells_finish p findings known finder.place n ≡ false
-      → Adds old list (IsUntoldBelow p findings known finder n)
-      → Adds old (list ++ sent_to n finder ∷ []) (IsUntoldBelow p findings known finder (n + 1))
+      → GainsEntries old list (IsUntoldBelow p findings known finder n)
+      → GainsEntries old (list ++ sent_to n finder ∷ []) (IsUntoldBelow p findings known finder (n + 1))
   untold_added n list off adds entry = (there, back)
     where
-      there : Lists (list ++ sent_to n finder ∷ []) entry → Lists old entry ⊎ IsUntoldBelow p findings known finder (n + 1) entry
+      there : ListsEntry (list ++ sent_to n finder ∷ []) entry → ListsEntry old entry ⊎ IsUntoldBelow p findings known finder (n + 1) entry
       there w = elim ((listed_more list (sent_to n finder) entry).0 w) [
         | inl v ↦ elim ((adds entry).0 v) [
           | inl before ↦ inl before
@@ -207,12 +207,12 @@ module _ (p : MpiProgram) (findings : Findings) (known : List Bool) (finder : Fi
         | inr same ↦ inr (record { rank = n; below = omega arith; untold = off; is = same })
       ]
 
-      again : (u : IsUntoldBelow p findings known finder (n + 1) entry) → (u.rank ≡ n) ⊎ (u.rank ≡ n → ⊥) → Lists list entry ⊎ (entry ≡ sent_to n finder)
+      again : (u : IsUntoldBelow p findings known finder (n + 1) entry) → (u.rank ≡ n) ⊎ (u.rank ≡ n → ⊥) → ListsEntry list entry ⊎ (entry ≡ sent_to n finder)
       again u (inl same) = inr (u.is ∙ ap (λ (z : ℕ). sent_to z finder) same)
       again u (inr differ) =
           inl ((adds entry).1 (inr (record { rank = u.rank; below = let low = u.below in omega (arith, low, differ); untold = u.untold; is = u.is })))
 
-      back : Lists old entry ⊎ IsUntoldBelow p findings known finder (n + 1) entry → Lists (list ++ sent_to n finder ∷ []) entry
+      back : ListsEntry old entry ⊎ IsUntoldBelow p findings known finder (n + 1) entry → ListsEntry (list ++ sent_to n finder ∷ []) entry
       back (inl w) = (listed_more list (sent_to n finder) entry).1 (inl ((adds entry).1 (inl w)))
       back (inr u) = (listed_more list (sent_to n finder) entry).1 (again u (cases_eq u.rank n))
 
@@ -315,21 +315,21 @@ module _ (p : MpiProgram) (findings : Findings) (known : List Bool) (n : ℕ) (f
         is = l.is ∙ ap (sent_to l.rank) (sym own);
       }
 
-  pub finder_more : (old new : List Loose) → Adds old new (IsUntoldBelow p findings known finder p.ranks) → AreLooseBelow p n old → AreLooseBelow p (n + 1) new
+  pub finder_more : (old new : List Loose) → GainsEntries old new (IsUntoldBelow p findings known finder p.ranks) → AreLooseBelow p n old → AreLooseBelow p (n + 1) new
   finder_more old new adds are entry = (there, back)
     where
-      there : Lists new entry → IsLooseBelow p (n + 1) entry
+      there : ListsEntry new entry → IsLooseBelow p (n + 1) entry
       there w = elim ((adds entry).0 w) [
         | inl v ↦ weaker p n entry ((are entry).0 v)
         | inr u ↦ loose_here entry u
       ]
 
       back_by : (l : IsLooseBelow p (n + 1) entry) → (l.loose.f ≡ n) ⊎ (l.loose.f ≡ n → ⊥)
-          → Lists old entry ⊎ IsUntoldBelow p findings known finder p.ranks entry
+          → ListsEntry old entry ⊎ IsUntoldBelow p findings known finder p.ranks entry
       back_by l (inl same) = inr (untold_here entry l.loose same)
       back_by l (inr differ) = inl ((are entry).1 (record { loose = l.loose; below = let low = l.below in omega (arith, low, differ) }))
 
-      back : IsLooseBelow p (n + 1) entry → Lists new entry
+      back : IsLooseBelow p (n + 1) entry → ListsEntry new entry
       back l = (adds entry).1 (back_by l (cases_eq l.loose.f n))
 
 -- ---- all calls

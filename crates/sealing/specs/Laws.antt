@@ -9,7 +9,7 @@ use Rattle.phases.specs.Conditions.{LeavesNothing}
 use Rattle.phases.specs.CallPlaces.{IsWellFormed}
 use Rattle.phases.specs.Rests.{IsFront, behind}
 use Rattle.sealing.specs.declared.loose.Loose.{Loose}
-use Rattle.sealing.specs.Sealing.{IsFoundBefore, IsSealed}
+use Rattle.sealing.specs.Sealing.{IsFoundBeforeFinish, IsSealed}
 use Rattle.sealing.specs.Sure.{HasSurePartners, TellsFinish}
 use Rattle.sealing.specs.Loose.{IsLoose, IsLooseSend}
 
@@ -31,7 +31,7 @@ SurePartnersAreSo =
 abbrev pub FinishTells : Type 0
 FinishTells =
     (p : MpiProgram) (e : Configuration) (knows : Table) (rank f : ℕ) → IsWellFormed p → HasSurePartners p e → IsJustified p e knows
-    → TellsFinish p e knows rank f → IsFoundBefore p f rank
+    → TellsFinish p e knows rank f → IsFoundBeforeFinish p f rank
 
 -- A phase is sealed before what follows where that has no send that a loose entry stands for.
 abbrev pub NoLooseSendSeals : Type 0

@@ -9,8 +9,8 @@ use Rattle.semantics.specs.Machine.{opening, after_all, IsRun, is_matched, is_ra
 use Rattle.races.specs.Races.{names_source}
 
 -- In each run of the program, the finder has found a message where the rank is finished.
-abbrev pub IsFoundBefore : MpiProgram → ℕ → ℕ → Type 0
-IsFoundBefore p f rank =
+abbrev pub IsFoundBeforeFinish : MpiProgram → ℕ → ℕ → Type 0
+IsFoundBeforeFinish p f rank =
     (steps : List Step) → IsRun p (opening p) steps → IsTrue (is_rank_finished p (after_all (opening p) steps) rank)
     → IsTrue (is_matched (after_all (opening p) steps) f)
 
@@ -20,4 +20,4 @@ IsFoundBefore p f rank =
 abbrev pub IsSealed : MpiProgram → MpiProgram → Type 0
 IsSealed p following =
     (f s : ℕ) (finder send : Call) → call_at p f ≡ Some finder → call_at following s ≡ Some send → IsTrue (both_hold fits (Some send) (Some finder))
-    → IsTrue (names_source (pattern_of finder.kind)) ⊎ IsFoundBefore p f send.rank
+    → IsTrue (names_source (pattern_of finder.kind)) ⊎ IsFoundBeforeFinish p f send.rank

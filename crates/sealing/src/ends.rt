@@ -3,7 +3,7 @@
 ghost use Rattle.std.specs.Prelude.{◌≡◌, IfOk, OnOk};
 ghost use Rattle.knowledge.specs.Knowledge.{column_table, with_partners};
 ghost use Rattle.sealing.specs.Loose.{AreLoose};
-ghost use Rattle.sealing.specs.parts.Ends.{tells_end, tells_finish, Adds, AddsLoose, AreFindings, IsUntoldBelow};
+ghost use Rattle.sealing.specs.parts.Ends.{tells_end, tells_finish, GainsEntries, AddsLoose, AreFindings, IsUntoldBelow};
 
 use crate::finders::{Finder, finder_at};
 use crate::lasts::last_calls;
@@ -85,7 +85,7 @@ fn add_untold(
     finder: Finder,
     loose: &mut Vec<Loose>,
 ) -> Result<(), AllocError>
-    ensures { OnOk result (Adds loose.old.items loose.new.items (IsUntoldBelow program.now findings.now
+    ensures { OnOk result (GainsEntries loose.old.items loose.new.items (IsUntoldBelow program.now findings.now
         known.now finder program.now.ranks)) }
 {
     for source in 0..program.ranks() {

@@ -10,5 +10,5 @@ pub record IsConfigurationOf (p : MpiProgram) (m : Configuration) : Type 0 where
   pub partner : length m.partner ≡ length p.calls
 
 -- the call is issued and not matched
-abbrev pub is_open : MpiProgram → Configuration → ℕ → Bool
-is_open p m c = is_issued p m c && not (is_matched m c)
+abbrev pub is_open_call : MpiProgram → Configuration → ℕ → Bool
+is_open_call p m c = is_issued p m c && not (is_matched m c)

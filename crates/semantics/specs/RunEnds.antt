@@ -20,7 +20,7 @@ pub record IsLiveRun (p : MpiProgram) (steps : List Step) : Type 0 where
   pub not_finished : IsFinished p (after_all (opening p) steps) → ⊥
 
 -- the step at this place, from 1, is the first that is not enabled
-pub record StopsAt (p : MpiProgram) (steps : List Step) (at : ℕ) : Type 0 where
+pub record StopsAtStep (p : MpiProgram) (steps : List Step) (at : ℕ) : Type 0 where
   pub step : Step
   pub place : ℕ
   pub at_place : at ≡ place + 1

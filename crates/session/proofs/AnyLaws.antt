@@ -7,10 +7,10 @@ use Rattle.command_line.specs.CommandLine.{version_line}
 use Rattle.command_line.specs.Requests.{AskFor, Task, to_check, to_decide, to_decide_each, to_decide_phases, to_decide_unrolled, to_encode, to_explain, to_explain_each, to_explain_unrolled, to_export, to_join, to_phases, to_prove, to_replay, to_shrink, to_trim, to_unroll}
 use Rattle.session.specs.AnyLaws.{IsRightlyTold, ToldDeadlockIsShown}
 use Rattle.session.specs.Asking.{TellsDeadlock}
-use Rattle.session.specs.Endings.{EndsUnasked, Explains, TaskEnds}
+use Rattle.session.specs.Endings.{EndsUnasked, ExplainsUsage, TaskEnds}
 use Rattle.session.specs.Explaining.{IsDecidedFirst, IsExplained}
 use Rattle.session.specs.Lines.{early_line}
-use Rattle.session.specs.Pages.{IsEncoded}
+use Rattle.session.specs.Pages.{IsEncodedPage}
 use Rattle.session.specs.Runs.{SessionRun}
 use Rattle.session.specs.Several.{beside_each, beside_several}
 use Rattle.session.specs.Sweeping.{form_of_answer}
@@ -30,7 +30,7 @@ use Rattle.session.proofs.SweptPages.{explained_hangs, swept_hangs}
 use Rattle.session.proofs.UnrolledPages.{unrolled_untold}
 
 -- the page of `encode` tells no deadlock
-encoded_untold : (dimacs : Bool) (file : Option (List ℕ)) (text : List ℕ) (status : ℕ) → IsEncoded dimacs file text status → PageTells text status → ⊥
+encoded_untold : (dimacs : Bool) (file : Option (List ℕ)) (text : List ℕ) (status : ℕ) → IsEncodedPage dimacs file text status → PageTells text status → ⊥
 encoded_untold false file text status (program, all, inl formula) tells =
     formula_untold (formula_of formula.0.p) text status formula.0.text_is formula.1 tells
 encoded_untold true file text status (program, all, inl formula) tells = dimacs_untold formula.0.p text status formula.0.text_is formula.1 tells
@@ -208,7 +208,7 @@ asked_told run (to_explain_each programs junit workers depth budget form beside)
     let hangs = each_hangs run.tells.writes run.before run.after form junit programs page.0 (explained_true run.before budget form) page.1 page.2 page.3 in
     inr (inr (inr (inr (inl (programs, junit, inr (workers, depth, budget, form, beside, asks), (hangs.path, hangs.named, hangs.hangs))))))
 
-explained_untold : (run : SessionRun) (kind : ErrorKind) → Explains run kind → TellsDeadlock run → ⊥
+explained_untold : (run : SessionRun) (kind : ErrorKind) → ExplainsUsage run kind → TellsDeadlock run → ⊥
 explained_untold run kind (inl usage) says = complaint_untold run usage.1.0 6 (λ one. omega (arith, one)) usage.1.1 says
 explained_untold run kind (inr (inl help)) says = help_untold help.1.0 help.1.1 (deadlock_printed run help.1.0 0 help.1.2.0 says)
 explained_untold run kind (inr (inr version)) says = version_untold (deadlock_printed run version_line 0 version.1.0 says)

@@ -7,12 +7,12 @@ use Rattle.checker.specs.declared.reason.Reason.{Reason}
 use Rattle.checker.specs.declared.reason.Verdict.{Verdict}
 use Rattle.checker.specs.declared.reason.Verdict.TheVariants as verdicts
 use Rattle.checker.proofs.OneVerdicts.{kinds_differ, right_or_memory}
-use Rattle.reports.specs.Replays.{Replays, TellsRun}
+use Rattle.reports.specs.Replays.{TellsReplay, TellsRun}
 use Rattle.reports.specs.declared.steps.Replayed.{Replayed}
 use Rattle.reports.specs.declared.steps.Replayed.TheVariants as replays
 use Rattle.session.specs.CheckLaws.{CheckedDeadlockIsPrinted, CheckedDeadlockIsShown, CheckedSafetyIsPrinted, CheckedSafetyIsTrue, EncodedFormulaIsPrinted, ReadFilesAreNotBlamed, RefutedIsChecked, ReplayedDeadlockIsShown, ReplayedRunIsPrinted, ShownDeadlockIsChecked, ShownDeadlockIsReplayed}
 use Rattle.session.specs.Lines.{IsLine, deadlock_line, no_deadlock_line, told_of_verdict, told_status}
-use Rattle.session.specs.Pages.{HasTextOfFormula, IsChecked, IsEither, IsEncoded, IsReplayPage, IsReplayed}
+use Rattle.session.specs.Pages.{HasTextOfFormula, IsCheckedPage, IsEither, IsEncodedPage, IsReplayPage, IsReplayed}
 use Rattle.session.specs.Runs.{PrintsAlone, by_file, by_memory, by_page}
 use Rattle.session.specs.declared.told.Outcome.TheVariants as told
 use Rattle.session.proofs.DeadlockLines.{one_told, safe_line, stuck_line, zero_told}
@@ -43,12 +43,12 @@ checked_never run as_json p e program ends asks held says =
     check_never (run.before p) (run.before e) as_json page.0 page.1 program page.2 page.3 held
 
 -- what the page of a check with the status 0 tells, and one with the status 1
-pub safe_page : (program_file evidence_file : Option (List ℕ)) (json : Bool) (text : List ℕ) → IsChecked program_file evidence_file json text 0
+pub safe_page : (program_file evidence_file : Option (List ℕ)) (json : Bool) (text : List ℕ) → IsCheckedPage program_file evidence_file json text 0
     → text ≡ no_deadlock_line json
 safe_page program_file evidence_file json text page =
     safe_line json text 0 (subst (λ t. IsLine t json text 0) (zero_told (told_of_verdict page.2) (sym page.6.3)) page.6)
 
-pub stuck_page : (program_file evidence_file : Option (List ℕ)) (json : Bool) (text : List ℕ) → IsChecked program_file evidence_file json text 1
+pub stuck_page : (program_file evidence_file : Option (List ℕ)) (json : Bool) (text : List ℕ) → IsCheckedPage program_file evidence_file json text 1
     → text ≡ deadlock_line json
 stuck_page program_file evidence_file json text page =
     stuck_line json text 1 (subst (λ t. IsLine t json text 1) (one_told (told_of_verdict page.2) (sym page.6.3)) page.6)
@@ -88,7 +88,7 @@ refused_by_memory program evidence reason judges shows = elim (right_or_memory p
   | inr e ↦ ap (λ (v : Verdict). told_status (told_of_verdict v)) e
 ]
 
-replay_status : (lines : Bool) (program evidence : List ℕ) (r : Replayed) (text : List ℕ) (status : ℕ) → Replays lines program evidence r → IsReplayPage r text status
+replay_status : (lines : Bool) (program evidence : List ℕ) (r : Replayed) (text : List ℕ) (status : ℕ) → TellsReplay lines program evidence r → IsReplayPage r text status
     → Shows program evidence → (status ≡ 1) ⊎ (status ≡ 4)
 replay_status lines program evidence (replays.Stuck steps) text status given page shows = inl page.1
 replay_status lines program evidence (replays.Refused reason) text status given page shows =
@@ -109,7 +109,7 @@ shown_replayed lines run p e program evidence ends asks held_p held_e shows =
     (λ text status page. replayed_status lines (run.before p) (run.before e) text status program evidence page held_p held_e shows)
 
 -- the page of a replay with the status 1 is the run that is shown
-stuck_replay : (lines : Bool) (program evidence : List ℕ) (r : Replayed) (text : List ℕ) → Replays lines program evidence r → IsReplayPage r text 1
+stuck_replay : (lines : Bool) (program evidence : List ℕ) (r : Replayed) (text : List ℕ) → TellsReplay lines program evidence r → IsReplayPage r text 1
     → (shown : Shows program evidence) × TellsRun lines program shown.p shown.steps text
 stuck_replay lines program evidence (replays.Stuck steps) text given page =
     (given.0, subst (TellsRun lines program given.0.p given.0.steps) (sym page.0) given.1)
@@ -138,14 +138,14 @@ replayed_run = record {
 -- ---- encode
 
 -- the page of `encode` with the status 0 is the formula's text
-encoded_text : (dimacs : Bool) (file : Option (List ℕ)) (text program : List ℕ) → IsEncoded dimacs file text 0 → file ≡ Some program
+encoded_text : (dimacs : Bool) (file : Option (List ℕ)) (text program : List ℕ) → IsEncodedPage dimacs file text 0 → file ≡ Some program
     → HasTextOfFormula dimacs program text
 encoded_text dimacs file text program (read, all, inl formula) held =
     subst (λ (x : List ℕ). HasTextOfFormula dimacs x text) (all_are file read program all held) formula.0
 encoded_text dimacs file text program (read, all, inr (reason, why, line)) held = absurd (omega (arith, line.3, refused_above reason))
 
 -- and none has the status 1
-never_encoded : (dimacs : Bool) (file : Option (List ℕ)) (text : List ℕ) → IsEncoded dimacs file text 1 → ⊥
+never_encoded : (dimacs : Bool) (file : Option (List ℕ)) (text : List ℕ) → IsEncodedPage dimacs file text 1 → ⊥
 never_encoded dimacs file text (read, all, inl formula) = omega (arith, formula.1)
 never_encoded dimacs file text (read, all, inr (reason, why, line)) = omega (arith, line.3, refused_above reason)
 

@@ -5,7 +5,7 @@ use Rattle.std.proofs.lemmas.Bool.{cases_lt}
 use Rattle.std.proofs.lemmas.Option.{same_Some, slice_get-map, slice_get_read, slice_get_within}
 use Rattle.std.proofs.lemmas.List.{length-map}
 use Rattle.files.specs.Contents.{KeepsOthers}
-use Rattle.session.specs.parts.Phasing.{AreApart, files_of}
+use Rattle.session.specs.parts.Phasing.{ArePathsApart, files_of}
 use Rattle.session.specs.Phasing.{ChangesThese, FileText, Hold}
 use Rattle.session.specs.declared.cut_files.Output.{Output}
 
@@ -15,7 +15,7 @@ HoldBelow count files new = (place : ℕ) (file : FileText) → place < count �
 
 module _ (files : List FileText) (old new : List ℕ → Option (List ℕ)) (place : ℕ) (file : FileText) (there : slice_get files place ≡ Some file) (keeps : KeepsOthers file.path old new) where
   -- one file more has its text
-  pub one_more_held : AreApart files → new file.path ≡ Some file.text → HoldBelow place files old → HoldBelow (place + 1) files new
+  pub one_more_held : ArePathsApart files → new file.path ≡ Some file.text → HoldBelow place files old → HoldBelow (place + 1) files new
   one_more_held apart taken held k other below at = elim (cases_lt k place) [
     | inl before ↦ keeps other.path (apart k place other file before at there) ∙ held k other before at
     | inr late ↦

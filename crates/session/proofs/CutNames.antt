@@ -5,8 +5,8 @@ use Rattle.std.proofs.lemmas.Fmt.{decimal_injective, first_decimal}
 use Rattle.std.proofs.lemmas.List.{append_cancel_left, append_cancel_right, length-replicate}
 use Rattle.std.proofs.lemmas.Option.{same_Some}
 use Rattle.callorder.proofs.Lookups.{slice_get_of_append}
-use Rattle.session.specs.parts.Phasing.{AreApart}
-use Rattle.session.specs.Phasing.{ChangesThese, ChangesWithin, Cut, FileText, Hold, Part, cut_files, file_name, job_lines, order_lines, path_in, text_files, text_path}
+use Rattle.session.specs.parts.Phasing.{ArePathsApart}
+use Rattle.session.specs.Phasing.{ChangesThese, ChangesWithin, PhaseCut, FileText, Hold, Part, cut_files, file_name, job_lines, order_lines, path_in, text_files, text_path}
 
 -- ---- names
 
@@ -81,7 +81,7 @@ pub data IsNamed (folder : List ℕ) (count place : ℕ) (path : List ℕ) : Typ
   the_jobs : place ≡ count → path ≡ path_in folder (codes "jobs") → IsNamed folder count place path
   the_order : place ≡ count + 1 → path ≡ path_in folder (codes "phases") → IsNamed folder count place path
 
-module _ (folder : List ℕ) (cut : Cut) where
+module _ (folder : List ℕ) (cut : PhaseCut) where
   last_two : (place : ℕ) (file : FileText) (k : ℕ) → place ≡ length cut.parts + k
       → slice_get (record { path = path_in folder (codes "jobs"); text = job_lines folder 1 cut.parts } ∷ record { path = path_in folder (codes "phases"); text = order_lines cut.order } ∷ []) k ≡ Some file
       → IsNamed folder (length cut.parts) place file.path
@@ -115,7 +115,7 @@ module _ (folder : List ℕ) (cut : Cut) where
   other_names few i j a b below (the_order low is) (the_jobs high other) same = omega (arith, low, high, below)
   other_names few i j a b below (the_order low is) (the_order high other) same = omega (arith, low, high, below)
 
-  pub apart : length cut.parts < 18446744073709551615 → AreApart (cut_files folder cut)
+  pub apart : length cut.parts < 18446744073709551615 → ArePathsApart (cut_files folder cut)
   apart few i j a b below first second = other_names few i j a.path b.path below (named i a first) (named j b second)
 
   in_folder : (count place : ℕ) (path : List ℕ) → IsNamed folder count place path → (name : List ℕ) × (path ≡ path_in folder name)

@@ -15,8 +15,8 @@ use Rattle.deciding.specs.declared.decision.Decision.TheVariants as decisions
 use Rattle.deciding.specs.declared.texts.Undecided.{Undecided}
 use Rattle.cutting.specs.Orders.{IsOrder}
 use Rattle.cutting.specs.declared.whole.Phases.{Phases}
-use Rattle.session.specs.parts.Phasing.{AreApart, AreOutputs, AreTexts, IsPageOf, files_of}
-use Rattle.session.specs.Phasing.{ChangesThese, ChangesWithin, FileText, HaveTexts, Hold, IsCut, IsCutDecision, IsCutPage, IsPart, IsWrittenCut, MakeUp, Part, cut_line, is_race, job_lines, order_lines, path_in, text_files}
+use Rattle.session.specs.parts.Phasing.{ArePathsApart, AreOutputs, AreTexts, IsPageOf, files_of}
+use Rattle.session.specs.Phasing.{ChangesThese, ChangesWithin, FileText, HaveTexts, Hold, IsPhaseCut, IsCutDecision, IsCutPage, IsPartOfCut, IsWrittenCut, MakeUpProgram, Part, cut_line, is_race, job_lines, order_lines, path_in, text_files}
 use Rattle.session.specs.Ties.{AreToldTies}
 use Rattle.session.specs.declared.commands.Stop.{Stop}
 use Rattle.session.specs.declared.cut_files.Outputs.{Outputs}
@@ -30,8 +30,8 @@ one_before : (found : Option ℕ) (number : ℕ) → option_map (λ n. n + 1) fo
 one_before None number e = cc
 one_before (Some n) number e = (n, refl, sym (same_Some (n + 1) number e))
 
-is_cut : (count : ℕ) (order : List ℕ) (parts : List Part) → IsOrder count order → length parts ≡ count → AllByRecursion IsPart parts
-    → IsCut (record { parts = parts; order = map (λ n. n + 1) order })
+is_cut : (count : ℕ) (order : List ℕ) (parts : List Part) → IsOrder count order → length parts ≡ count → AllByRecursion IsPartOfCut parts
+    → IsPhaseCut (record { parts = parts; order = map (λ n. n + 1) order })
 is_cut count order parts is size all = record {
   parts = all;
   known = λ place number there.
@@ -72,10 +72,10 @@ outputs_are folder given parts texts outputs list order is are have files list_i
 
 module _ (folder : List ℕ) (given : Phases) (outputs : Outputs) (are : AreOutputs folder given outputs) where
   -- no two files have one path
-  pub files_apart : AreApart (files_of outputs.files.items)
+  pub files_apart : ArePathsApart (files_of outputs.files.items)
   files_apart =
       let few : length are.cut.parts < 18446744073709551615 = omega (arith, as_many_texts are.cut.parts given.texts.items are.of.texts, given.texts.ok.0) in
-      subst AreApart (sym are.files) (apart folder are.cut few)
+      subst ArePathsApart (sym are.files) (apart folder are.cut few)
 
   -- all are in the folder
   pub files_within : (old new : List ℕ → Option (List ℕ)) → ChangesThese (files_of outputs.files.items) old new → ChangesWithin folder old new
@@ -85,7 +85,7 @@ module _ (folder : List ℕ) (given : Phases) (outputs : Outputs) (are : AreOutp
 -- ---- the page
 
 pub is_written : (tells : Bool) (old new : List ℕ → Option (List ℕ)) (folder : List ℕ) (given : Phases) (outputs : Outputs) (program told text : List ℕ) (status : ℕ) (p : MpiProgram) (are : AreOutputs folder given outputs)
-    → IsTextOfWithin long program p → MakeUp p given → AreToldTies program p told → IsPageOf outputs told text status → (IsTrue tells → Hold (files_of outputs.files.items) new) → ChangesThese (files_of outputs.files.items) old new
+    → IsTextOfWithin long program p → MakeUpProgram p given → AreToldTies program p told → IsPageOf outputs told text status → (IsTrue tells → Hold (files_of outputs.files.items) new) → ChangesThese (files_of outputs.files.items) old new
     → IsWrittenCut tells old new folder program text status
 is_written tells old new folder given outputs program told text status p are is made ties page held others = record {
   cut = are.cut;

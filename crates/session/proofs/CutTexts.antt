@@ -6,7 +6,7 @@ use Rattle.std.proofs.lemmas.List.{append-nil, length-map, map-append}
 use Rattle.std.proofs.lemmas.List.Sums.{count_by-le-length, sum_by-append, sum_by-cons}
 use Rattle.callorder.proofs.Lookups.{All-append}
 use Rattle.session.specs.parts.Phasing.{AreTexts, files_of}
-use Rattle.session.specs.Phasing.{HaveTexts, IsPart, Part, count_jobs, file_name, job_line, job_lines, path_in, text_files, text_path}
+use Rattle.session.specs.Phasing.{HaveTexts, IsPartOfCut, Part, count_jobs, file_name, job_line, job_lines, path_in, text_files, text_path}
 use Rattle.session.specs.declared.cut_files.Texts.{Texts}
 use Rattle.session.proofs.CutNames.{length-text_files}
 
@@ -51,7 +51,7 @@ module _ (folder : List ℕ) (parts : List Part) (old : Texts) (so_far : AreText
   few_jobs = omega (arith, so_far.jobs, count_by-le-length (λ part. part.job) parts)
 
   pub one_text : (new : Texts) (text name : List ℕ) (job : Bool) (number : ℕ) → number ≡ length parts + 1 → name ≡ file_name number (codes ".mpi")
-      → IsPart (record { text = text; job = job })
+      → IsPartOfCut (record { text = text; job = job })
       → files_of new.files.items ≡ files_of old.files.items ++ record { path = path_in folder name; text = text } ∷ []
       → string_bytes new.list ≡ string_bytes old.list ++ cond job (path_in folder name ++ codes "\n") []
       → new.jobs ≡ cond job (old.jobs + 1) old.jobs
@@ -60,7 +60,7 @@ module _ (folder : List ℕ) (parts : List Part) (old : Texts) (so_far : AreText
       let part : Part = record { text = text; job = job } in
       let here : number ≡ 1 + length parts = omega (arith, at) in
       record {
-        all = All-append IsPart parts (part ∷ []) so_far.all (is, tt);
+        all = All-append IsPartOfCut parts (part ∷ []) so_far.all (is, tt);
         files =
             file ∙ (λ i. so_far.files i ++ record { path = path_in folder (named i); text = text } ∷ [])
             ∙ (λ i. text_files folder 1 parts ++ record { path = text_path folder (here i); text = text } ∷ []) ∙ sym (text_files_more folder 1 parts part);

@@ -13,7 +13,7 @@ use Rattle.deciding.specs.declared.decision.Race.{Race}
 use Rattle.deciding.specs.declared.texts.Undecided.{Undecided}
 use Rattle.checker.specs.Headline.{IsNeverStuck, Shows}
 use Rattle.checker.specs.declared.reason.Reason.{Reason}
-use Rattle.prover.specs.Answers.{Answers, CanFinish, FinishesIfUnknown}
+use Rattle.prover.specs.Answers.{IsAnswer, CanFinish, FinishesIfUnknown}
 use Rattle.prover.specs.declared.answer.Answer.{Answer}
 use Rattle.prover.specs.declared.answer.Answer.TheVariants as answers
 use Rattle.options.specs.declared.form.Form.{Form}
@@ -53,10 +53,10 @@ answer_never form program race (answers.Refused reason) text page = absurd (omeg
 
 -- some run of the program finishes, or it is refused by a search
 abbrev FinishesOrRefused : List ℕ → Type 0
-FinishesOrRefused program = CanFinish program ⊎ ((reason : Reason) × Answers program (answers.Refused reason))
+FinishesOrRefused program = CanFinish program ⊎ ((reason : Reason) × IsAnswer program (answers.Refused reason))
 
 answer_page_finishes : (form : Form) (budget : ℕ) (program : List ℕ) (race : Race) (a : Answer) (text : List ℕ) → IsAnswerPage form program race a text 2 → 0 < budget
-    → Answers program a → FinishesIfUnknown budget program a → FinishesOrRefused program
+    → IsAnswer program a → FinishesIfUnknown budget program a → FinishesOrRefused program
 answer_page_finishes form budget program race (answers.Unknown why) text page some is finishes =
     inl (answer_finishes budget program (answers.Unknown why) (sym page.3) some finishes)
 answer_page_finishes form budget program race (answers.NoDeadlock evidence) text page some is finishes = absurd (found_decides form program evidence text page)
@@ -113,7 +113,7 @@ given_never held path e budget form text program page holds =
 
 pub explained_finishes : (held : List ℕ → Option (List ℕ)) (path : List ℕ) (e : Option (List ℕ)) (budget : ℕ) (form : Form) (text program : List ℕ)
     → IsExplainPage held path e budget form text 2 → 0 < budget → held path ≡ Some program
-    → (e ≡ None) × ((race : Race) × HasRace program race) × (CanFinish program ⊎ ((reason : Reason) × Answers program (answers.Refused reason)))
+    → (e ≡ None) × ((race : Race) × HasRace program race) × (CanFinish program ⊎ ((reason : Reason) × IsAnswer program (answers.Refused reason)))
 explained_finishes held path None budget form text program page some holds =
     let known = subst IsUnknown (all_are (held path) page.0 program page.2 holds) (decision_finishes form budget page.0 page.1 text page.3 page.4 some) in
     (refl, known.0, known.1)

@@ -6,7 +6,7 @@ use Rattle.checker.specs.declared.reason.Verdict.TheVariants as verdicts
 use Rattle.session.specs.parts.FileLaws.{IsHandedOver, IsMapWritten, ShrunkProgramHangs}
 use Rattle.session.specs.FileLaws.{ExportedAnswerIsPrinted, ExportedProofIsWritten, ExportedSafetyIsTrue, TrimmedRefutationIsWritten}
 use Rattle.session.specs.Lines.{line_text, lines_words, no_deadlock_line, told_of_untrimmed, told_of_verdict, told_status}
-use Rattle.session.specs.Pages.{ChangesAtMost, IsExportedTo, IsTrimmed, IsWritten}
+use Rattle.session.specs.Pages.{ChangesAtMost, IsExportedTo, IsTrimmedPage, IsWritten}
 use Rattle.session.specs.Runs.{PrintsAlone, SessionRun}
 use Rattle.session.specs.Shrinking.{AreWritten, Hangs, IsHandedSmaller, IsMadeSmaller, IsSmaller, IsSmallerPage, IsUnhung}
 use Rattle.shrinking.specs.Left.{AreLeft}
@@ -69,14 +69,14 @@ untrimmed_above (untrimmed.Evidence fault) = refused_above (reasons.Evidence fau
 untrimmed_above untrimmed.Number = omega arith
 untrimmed_above untrimmed.NotRefutation = omega arith
 
-trimmed_page : (tells : Bool) (before after : List ℕ → Option (List ℕ)) (e out : List ℕ) (as_json : Bool) (text : List ℕ) (status : ℕ) → IsTrimmed tells before after e out as_json text status → status < 3
+trimmed_page : (tells : Bool) (before after : List ℕ → Option (List ℕ)) (e out : List ℕ) (as_json : Bool) (text : List ℕ) (status : ℕ) → IsTrimmedPage tells before after e out as_json text status → status < 3
     → (evidence : List ℕ) × AreAll (before e) evidence × ((s : Shortened) × Shortens evidence s × IsWritten tells before after (Some out) s.text.items
     × (text ≡ line_text as_json (lines_words s.before s.after) 0) × (status ≡ 0))
 trimmed_page tells before after e out as_json text status (evidence, all, inl shorter) low = (evidence, all, shorter)
 trimmed_page tells before after e out as_json text status (evidence, all, inr (why, is, same, line)) low =
     absurd (omega (arith, low, line.3, untrimmed_above why))
 
-pub trimmed_untold : (tells : Bool) (before after : List ℕ → Option (List ℕ)) (e out : List ℕ) (as_json : Bool) (text : List ℕ) (status : ℕ) → IsTrimmed tells before after e out as_json text status → PageTells text status → ⊥
+pub trimmed_untold : (tells : Bool) (before after : List ℕ → Option (List ℕ)) (e out : List ℕ) (as_json : Bool) (text : List ℕ) (status : ℕ) → IsTrimmedPage tells before after e out as_json text status → PageTells text status → ⊥
 trimmed_untold tells before after e out as_json text status (evidence, all, inl shorter) says =
     lines_untold as_json shorter.0.before shorter.0.after text status shorter.3 shorter.4 says
 trimmed_untold tells before after e out as_json text status (evidence, all, inr (why, is, same, line)) says =

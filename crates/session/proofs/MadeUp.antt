@@ -8,7 +8,7 @@ use Rattle.calltext.specs.Limits.{long}
 use Rattle.callorder.specs.Programs.{MpiProgram}
 use Rattle.callorder.specs.Resolving.{IsTextOfWithin}
 use Rattle.phases.specs.Rests.{IsRest, behind}
-use Rattle.session.specs.Phasing.{AreDealt, ArePrograms, IsDealt}
+use Rattle.session.specs.Phasing.{AreDealtInOrder, ArePrograms, IsDealt}
 use Rattle.session.proofs.CutNames.{in_front}
 
 -- ---- the programs of texts
@@ -45,8 +45,8 @@ all_programs texts count programs all so_far place text there = so_far.each plac
 
 -- ---- dealing
 
-dealt_more : (programs : List MpiProgram) (number : ℕ) (p q part : MpiProgram) (order : List ℕ) → AreDealt programs p order q → IsDealt programs number q part
-    → AreDealt programs p (order ++ number ∷ []) (behind q part)
+dealt_more : (programs : List MpiProgram) (number : ℕ) (p q part : MpiProgram) (order : List ℕ) → AreDealtInOrder programs p order q → IsDealt programs number q part
+    → AreDealtInOrder programs p (order ++ number ∷ []) (behind q part)
 dealt_more programs number p q part [] e dealt = (part, subst (λ (z : MpiProgram). IsDealt programs number z part) (sym e) dealt, ap (λ (z : MpiProgram). behind z part) e)
 dealt_more programs number p q part (first ∷ order) d dealt = (d.0, d.1, dealt_more programs number (behind p d.0) q part order d.2 dealt)
 
@@ -54,7 +54,7 @@ dealt_more programs number p q part (first ∷ order) d dealt = (d.0, d.1, dealt
 pub record IsDealtTo (programs : List MpiProgram) (p : MpiProgram) (next order : List ℕ) : Type 0 where
   pub q : MpiProgram
   pub rest : IsRest p next q
-  pub dealt : AreDealt programs p order q
+  pub dealt : AreDealtInOrder programs p order q
 
 pub dealt_further : (programs : List MpiProgram) (p : MpiProgram) (old next order : List ℕ) (place number : ℕ) → place < length order → number ≡ get_or order place 0
     → (so_far : IsDealtTo programs p old (take place order))
@@ -65,6 +65,6 @@ dealt_further programs p old next order place number inside is so_far one =
     record {
       q = behind so_far.q one.0;
       rest = one.2;
-      dealt = subst (λ (numbers : List ℕ). AreDealt programs p numbers (behind so_far.q one.0)) (sym longer)
+      dealt = subst (λ (numbers : List ℕ). AreDealtInOrder programs p numbers (behind so_far.q one.0)) (sym longer)
           (dealt_more programs number p so_far.q one.0 (take place order) so_far.dealt one.1);
     }

@@ -15,7 +15,7 @@ use Rattle.session.specs.Asking.{TellsDeadlock, TellsSafety}
 use Rattle.session.specs.Endings.{SessionEnds, TaskEnds}
 use Rattle.session.specs.Lines.{told_of_undecided}
 use Rattle.session.specs.Pages.{ChangesAtMost, IsWritten}
-use Rattle.session.specs.PhaseLaws.{AskByPhases, CutsAreWritten, CutsStayInFolder, IsLeft, PhasesAreJoined}
+use Rattle.session.specs.PhaseLaws.{AskByPhases, CutsAreWritten, CutsStayInFolder, HasLeftCut, PhasesAreJoined}
 use Rattle.session.specs.Phasing.{IsCutPage, IsJoinedPage, IsPhasesPage, IsWrittenCut}
 use Rattle.session.specs.Runs.{PrintsAlone, SessionRun}
 use Rattle.session.specs.declared.told.Outcome.TheVariants as told
@@ -176,7 +176,7 @@ printed run text own low is prints = elim prints.0 [
 ]
 
 left_of : (run : SessionRun) (folder : Text) (program text : List ℕ) → IsWrittenCut run.tells.writes run.before run.after folder program text 0
-    → Appends run.out_before run.out_after text → IsLeft run folder program
+    → Appends run.out_before run.out_after text → HasLeftCut run folder program
 left_of run folder program text is appends = record {
   cut = is.cut;
   is = is.is;
@@ -192,13 +192,13 @@ left_of run folder program text is appends = record {
 
 left_by : (run : SessionRun) (p folder : Text) (text program : List ℕ) → IsCutPage run.tells.writes run.before run.after p folder text 0
     → run.before p ≡ Some program → Appends run.out_before run.out_after text
-    → (IsNeverStuckWithin long program × (run.after ≡ run.before)) ⊎ ((race : Race) × HasRace program race × IsLeft run folder program)
+    → (IsNeverStuckWithin long program × (run.after ≡ run.before)) ⊎ ((race : Race) × HasRace program race × HasLeftCut run folder program)
 left_by run p folder text program (given, Ok decisions.NoDeadlock, all, is, ends) held appends =
     inl (subst (IsNeverStuckWithin long) (all_are (run.before p) given program all held) is, ends.0)
 left_by run p folder text program (given, Ok (decisions.Deadlock steps), all, is, ends) held appends = absurd (omega (arith, ends.1.3))
 left_by run p folder text program (given, Ok (decisions.Race race), all, is, ends) held appends =
     inr
-    (subst (λ (bytes : List ℕ). (r : Race) × HasRace bytes r × IsLeft run folder bytes) (all_are (run.before p) given program all held)
+    (subst (λ (bytes : List ℕ). (r : Race) × HasRace bytes r × HasLeftCut run folder bytes) (all_are (run.before p) given program all held)
     (race, is, left_of run folder given text ends appends))
 left_by run p folder text program (given, Err why, all, is, ends) held appends = absurd (omega (arith, ends.1.3, undecided_above why))
 

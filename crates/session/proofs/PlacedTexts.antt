@@ -11,7 +11,7 @@ use Rattle.std.proofs.Math.Seq.{get_or-append_seam}
 use Rattle.calltext.proofs.Conjunctions.{and_true}
 use Rattle.options.specs.declared.form.Form.{Form}
 use Rattle.options.specs.declared.form.Form.TheVariants as forms
-use Rattle.places.specs.Sources.{is_gap, is_name, is_source, last_digits, source_of}
+use Rattle.places.specs.Sources.{is_gap, is_source_name, is_source, last_digits, source_of}
 use Rattle.places.specs.Woven.{AreCut, IsAtSource, IsNamedIf, Piece, is_in_place, kept_of, marker, plain_byte, source_text, told_of}
 
 -- the list has no letter i, which stands before each number of a line
@@ -106,7 +106,7 @@ no_quote_at (b ∷ bytes) none (suc i) is = no_quote_at bytes (by (b == 34) none
 abbrev HasName : List ℕ → Type 0
 HasName part = (i : ℕ) × (suc i < length part) × (get_or part (suc i) 0 ≡ 58) × (get_or part i 0 ≡ 34 → ⊥)
 
-name_in : (front : List ℕ) → is_name front ≡ true → HasName front
+name_in : (front : List ℕ) → is_source_name front ≡ true → HasName front
 name_in front h =
     let (long, others) = and_true (nat_lt 1 (length front)) (ends_with (λ x y. x == y) front (codes ":") && not (list_any (λ byte. byte == 34) front)) h in
     let (ends, none) = and_true (ends_with (λ x y. x == y) front (codes ":")) (not (list_any (λ byte. byte == 34) front)) others in
@@ -123,7 +123,7 @@ name_of_source : (part : List ℕ) → is_source part ≡ true → HasName part
 name_of_source part h =
     let n = length part - last_digits part in
     let front = take n part in
-    let (i, within, colon, other) = name_in front (and_true (nat_lt 0 (last_digits part)) (is_name front) h).1 in
+    let (i, within, colon, other) = name_in front (and_true (nat_lt 0 (last_digits part)) (is_source_name front) h).1 in
     let few : length front ≡ n = length-take-le n part (omega arith) in (
       i,
       omega (arith, within, few),

@@ -8,7 +8,7 @@ use Rattle.checker.proofs.OneVerdicts.{right_or_memory}
 use Rattle.session.specs.Asking.{TellsDeadlock, TellsSafety}
 use Rattle.session.specs.Endings.{FailsEarly}
 use Rattle.session.specs.Lines.{early_line, memory_line, told_of_verdict, told_status}
-use Rattle.session.specs.Pages.{IsChecked}
+use Rattle.session.specs.Pages.{IsCheckedPage}
 use Rattle.session.specs.Runs.{Complains, Ends, Prints, PrintsAlone, SessionRun, by_file, by_memory, by_page}
 use Rattle.session.specs.declared.page.Want.{Want}
 use Rattle.session.specs.declared.page.Want.TheVariants as want
@@ -102,7 +102,7 @@ same_status own a b e (inr four) = inr (e ∙ four)
 -- the page of a check has the status of the right verdict, or that of want of memory
 pub checked_status : (right : Verdict) → (right ≡ verdicts.Refused reasons.Memory → ⊥) → (program_file evidence_file : Option (List ℕ)) (json : Bool) (text : List ℕ) (status : ℕ)
     (program evidence : List ℕ) → program_file ≡ Some program → evidence_file ≡ Some evidence → Judges program evidence right
-    → IsChecked program_file evidence_file json text status → (status ≡ status_of right) ⊎ (status ≡ 4)
+    → IsCheckedPage program_file evidence_file json text status → (status ≡ status_of right) ⊎ (status ≡ 4)
 checked_status right some program_file evidence_file json text status program evidence held_p held_e judges page =
     let same = read_as_held (λ p e. Judges p e right) program_file evidence_file page.0 page.1 program evidence page.3 page.4 held_p held_e judges in
     same_status (status_of right) status (status_of page.2) page.6.3 (verdict_status page.2 right (right_or_memory page.0 page.1 page.2 right page.5 same some))

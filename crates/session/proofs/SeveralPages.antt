@@ -11,7 +11,7 @@ use Rattle.options.specs.declared.form.Form.{Form}
 use Rattle.options.specs.declared.form.Form.TheVariants as forms
 use Rattle.junit.specs.Report.{Case, IsOf, report_text}
 use Rattle.session.specs.Pages.{IsWritten}
-use Rattle.session.specs.Several.{AreAnswered, AreRowsOf, IsDecidedIn, IsExplainedIn, IsOfEach, cases_of, file_row, file_rows, outcome_of}
+use Rattle.session.specs.Several.{ArePathsAnswered, AreRowsOf, IsDecidedIn, IsExplainedIn, IsOfEach, cases_of, file_row, file_rows, outcome_of}
 use Rattle.session.specs.Sweeping.{Row, graver}
 use Rattle.std.specs.Prelude.{IfOk, OnOk}
 use Rattle.session.specs.declared.commands.Stop.{Stop}
@@ -173,14 +173,14 @@ names_are IsPage [] (row ∷ rows) are = absurd are
 names_are IsPage (path ∷ paths) [] are = absurd are
 
 pub none_answered : (IsPage : List ℕ → List ℕ → ℕ → Type 0) (form : Form) (answers : Answers) → answers.text.items ≡ [] → answers.status ≡ 0 → IsOf [] answers.report
-    → AreAnswered IsPage form [] answers
+    → ArePathsAnswered IsPage form [] answers
 none_answered IsPage form answers empty sound is = record { rows = []; are = tt; is_text = empty; is_status = sound; is_report = is }
 
 pub one_answered : (IsPage : List ℕ → List ℕ → ℕ → Type 0) (form : Form) (paths : List (List ℕ)) (path page : List ℕ) (own : ℕ) (answers more : Answers)
-    → (far : AreAnswered IsPage form paths answers) → IsPage path page own → more.text.items ≡ answers.text.items ++ file_row form path page
+    → (far : ArePathsAnswered IsPage form paths answers) → IsPage path page own → more.text.items ≡ answers.text.items ++ file_row form path page
     → more.status ≡ graver answers.status own
     → IsOf (cases_of paths far.rows ++ record { name = path; outcome = outcome_of own; text = page } ∷ []) more.report
-    → AreAnswered IsPage form (paths ++ path ∷ []) more
+    → ArePathsAnswered IsPage form (paths ++ path ∷ []) more
 one_answered IsPage form paths path page own answers more far is added graved reported =
     let row : Row = record { page = page; status = own } in
     record {
@@ -193,15 +193,15 @@ one_answered IsPage form paths path page own answers more far is added graved re
 
 -- so are the first of these programs, and one more
 pub next_answered : (IsPage : List ℕ → List ℕ → ℕ → Type 0) (form : Form) (paths : List (Bor (List ℕ))) (index : ℕ) (d : Bor (List ℕ)) (answers : Answers)
-    → index < length paths → AreAnswered IsPage form (map (λ p. p.now) (take index paths) ++ (get_or paths index d).now ∷ []) answers
-    → AreAnswered IsPage form (map (λ p. p.now) (take (index + 1) paths)) answers
+    → index < length paths → ArePathsAnswered IsPage form (map (λ p. p.now) (take index paths) ++ (get_or paths index d).now ∷ []) answers
+    → ArePathsAnswered IsPage form (map (λ p. p.now) (take (index + 1) paths)) answers
 next_answered IsPage form paths index d answers low told =
-    subst (λ (ps : List (List ℕ)). AreAnswered IsPage form ps answers)
+    subst (λ (ps : List (List ℕ)). ArePathsAnswered IsPage form ps answers)
     (sym (ap (map (λ (p : Bor (List ℕ)). p.now)) (take_more paths index d low)
     ∙ map-append (λ (p : Bor (List ℕ)). p.now) (take index paths) (get_or paths index d ∷ []))) told
 
 pub reported : (IsPage : List ℕ → List ℕ → ℕ → Type 0) (tells : Bool) (old new : List ℕ → Option (List ℕ)) (form : Form) (junit : Option (List ℕ))
-    (paths : List (List ℕ)) (answers : Answers) (r : Result Page Stop) → (far : AreAnswered IsPage form paths answers)
+    (paths : List (List ℕ)) (answers : Answers) (r : Result Page Stop) → (far : ArePathsAnswered IsPage form paths answers)
     → IfOk r (λ page. page.text.items ≡ answers.text.items) → IfOk r (λ page. page.status ≡ answers.status)
     → OnOk r (IsWritten tells old new junit (report_text (cases_of paths far.rows)))
     → IfOk r (λ page. IsOfEach IsPage tells old new form junit paths page.text.items page.status)

@@ -16,11 +16,11 @@ use Rattle.options.specs.declared.form.Form.{Form}
 use Rattle.session.specs.Explaining.{is_object}
 use Rattle.session.specs.Lines.{deadlock_line}
 use Rattle.session.specs.Pages.{IsScheduled}
-use Rattle.session.specs.Sweeping.{AreRows, IsDecidedFor, IsDecidedUnrolled, IsExplainedUnrolled, IsPageFor, IsTable, Row, graver, gravest, gravity, refused_line, row_text, rows_text}
+use Rattle.session.specs.Sweeping.{AreRowsForRanks, IsDecidedFor, IsDecidedUnrolled, IsExplainedUnrolled, IsPageFor, IsPageTable, Row, graver, gravest, gravity, refused_line, row_text, rows_text}
 use Rattle.std.specs.Global.{Vec}
 use Rattle.std.specs.Prelude.{IfOk}
 use Rattle.std.specs.declared.alloc.AllocError.{AllocError}
-use Rattle.spmd_program.specs.Unrolling.{IsRefusal, Tells}
+use Rattle.spmd_program.specs.Unrolling.{IsRefusal, TellsRefusal}
 use Rattle.spmd_program.specs.declared.unrolling.NotUnrolled.{NotUnrolled}
 use Rattle.spmd_program.specs.declared.unrolling.NotUnrolled.TheVariants.{Refused}
 use Rattle.session.specs.declared.page.Page.{Page}
@@ -86,7 +86,7 @@ record HasRow (IsPage : ℕ → List ℕ → ℕ → Type 0) (status low high : 
   is_page : IsPage number page status
 
 -- where one has the gravest status, a row of it is there
-one_grave : (IsPage : ℕ → List ℕ → ℕ → Type 0) (own status ranks : ℕ) (rows : List Row) → AreRows IsPage ranks rows → worst_from status rows ≡ own
+one_grave : (IsPage : ℕ → List ℕ → ℕ → Type 0) (own status ranks : ℕ) (rows : List Row) → AreRowsForRanks IsPage ranks rows → worst_from status rows ≡ own
     → (status ≡ own) ⊎ HasRow IsPage own ranks (ranks + length rows)
 one_grave IsPage own status ranks [] are e = inl e
 one_grave IsPage own status ranks (row ∷ rows) are e =
@@ -111,7 +111,7 @@ one_grave IsPage own status ranks (row ∷ rows) are e =
     ]
 
 -- where none is grave, each number has a row that isn't
-none_grave : (IsPage : ℕ → List ℕ → ℕ → Type 0) (status ranks : ℕ) (rows : List Row) → AreRows IsPage ranks rows → worst_from status rows ≡ 0
+none_grave : (IsPage : ℕ → List ℕ → ℕ → Type 0) (status ranks : ℕ) (rows : List Row) → AreRowsForRanks IsPage ranks rows → worst_from status rows ≡ 0
     → (status ≡ 0) × ((number : ℕ) → ranks ≤ number → number < ranks + length rows → (page : List ℕ) × IsPage number page 0)
 none_grave IsPage status ranks [] are e = (e, λ number above below. absurd (omega (arith, above, below)))
 none_grave IsPage status ranks (row ∷ rows) are e =
@@ -129,8 +129,8 @@ none_grave IsPage status ranks (row ∷ rows) are e =
 
 -- ---- rows, one by one
 
-are_more : (IsPage : ℕ → List ℕ → ℕ → Type 0) (ranks : ℕ) (rows : List Row) (row : Row) → AreRows IsPage ranks rows
-    → IsPage (ranks + length rows) row.page row.status → AreRows IsPage ranks (rows ++ row ∷ [])
+are_more : (IsPage : ℕ → List ℕ → ℕ → Type 0) (ranks : ℕ) (rows : List Row) (row : Row) → AreRowsForRanks IsPage ranks rows
+    → IsPage (ranks + length rows) row.page row.status → AreRowsForRanks IsPage ranks (rows ++ row ∷ [])
 are_more IsPage ranks [] row are page = (subst (λ (n : ℕ). IsPage n row.page row.status) (omega arith) page, tt)
 are_more IsPage ranks (first ∷ rows) row are page =
     (are.0, are_more IsPage (suc ranks) rows row are.1 (subst (λ (n : ℕ). IsPage n row.page row.status) (omega arith) page))
@@ -146,7 +146,7 @@ text_more json ranks (first ∷ rows) row =
 -- the rows of the numbers of ranks below one, their text and their gravest status
 pub record AreSoFar (IsPage : ℕ → List ℕ → ℕ → Type 0) (json : Bool) (first ranks : ℕ) (text : List ℕ) (status : ℕ) : Type 0 where
   pub rows : List Row
-  pub are : AreRows IsPage first rows
+  pub are : AreRowsForRanks IsPage first rows
   pub below : first + length rows ≡ ranks
   pub is_text : text ≡ rows_text json first rows
   pub is_status : status ≡ gravest rows
@@ -169,7 +169,7 @@ one_more IsPage json first ranks text status page own more worse far is added gr
     }
 
 pub whole_table : (IsPage : ℕ → List ℕ → ℕ → Type 0) (json : Bool) (first last ranks : ℕ) (text : List ℕ) (status : ℕ) → ranks ≡ last → AreSoFar IsPage json first (ranks + 1) text status
-    → IsTable IsPage json first last text status
+    → IsPageTable IsPage json first last text status
 whole_table IsPage json first last ranks text status at far =
     record { rows = far.rows; are = far.are; all = far.below ∙ ap (λ (n : ℕ). n + 1) at; is_text = far.is_text; is_status = far.is_status }
 
@@ -195,10 +195,10 @@ decided_for_safe json program map text (d, plain, is, page, woven) =
 -- the page of a text that is wrong
 pub refused_for : (path source : List ℕ) (settings : List (List ℕ)) (barriers json : Bool) (IsPage : List ℕ → List ℕ → List ℕ → ℕ → Type 0) (ranks : ℕ)
     (e : NotUnrolled) (told : Vec ℕ) (said : List ℕ) (page : Result Page AllocError) → e ≡ Refused told → said ≡ told.items
-    → Tells (IsRefusal path source ranks settings barriers) e → IfOk page (λ p. p.text.items ≡ refused_line json said) → IfOk page (λ p. p.status ≡ 3)
+    → TellsRefusal (IsRefusal path source ranks settings barriers) e → IfOk page (λ p. p.text.items ≡ refused_line json said) → IfOk page (λ p. p.status ≡ 3)
     → IfOk page (λ p. IsPageFor path source settings barriers json IsPage ranks p.text.items p.status)
 refused_for path source settings barriers json IsPage ranks e told said (Ok p) is same refusal text status =
-    inr (said, subst (IsRefusal path source ranks settings barriers) (sym same) (subst (Tells (IsRefusal path source ranks settings barriers)) is refusal), text, status)
+    inr (said, subst (IsRefusal path source ranks settings barriers) (sym same) (subst (TellsRefusal (IsRefusal path source ranks settings barriers)) is refusal), text, status)
 refused_for path source settings barriers json IsPage ranks e told said (Err x) is same refusal text status = text
 
 -- the line of a text that is wrong tells no deadlock
@@ -246,7 +246,7 @@ pub record HangsAmong (path source : List ℕ) (settings : List (List ℕ)) (bar
   pub hangs : HangsFor path source settings barriers number
 
 table_hangs : (path source : List ℕ) (settings : List (List ℕ)) (barriers json : Bool) (first last : ℕ) (text : List ℕ) (status : ℕ)
-    → IsTable (IsPageFor path source settings barriers json (IsDecidedFor json)) json first last text status → status ≡ 1
+    → IsPageTable (IsPageFor path source settings barriers json (IsDecidedFor json)) json first last text status → status ≡ 1
     → HangsAmong path source settings barriers first last
 table_hangs path source settings barriers json first last text status table one =
     elim (one_grave (IsPageFor path source settings barriers json (IsDecidedFor json)) 1 0 first table.rows table.are (sym table.is_status ∙ one)) [

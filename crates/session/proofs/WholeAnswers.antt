@@ -1,10 +1,10 @@
--- Answers, replays, formulas, explanations, proofs and smaller programs of texts as far as they
+-- IsAnswer, replays, formulas, explanations, proofs and smaller programs of texts as far as they
 -- were read are those of the whole texts.
 use Rattle.std.proofs.Common.{ℕ, Bool, true, false, List, inl, inr}
 use Rattle.options.specs.declared.form.Form.{Form}
 use Rattle.checker.specs.declared.reason.Reason.{Reason}
-use Rattle.prover.specs.Answers.{Answers, CanFinish, FinishesIfUnknown, HasNoFormulaText}
-use Rattle.reports.specs.Replays.{Replays}
+use Rattle.prover.specs.Answers.{IsAnswer, CanFinish, FinishesIfUnknown, HasNoFormulaText}
+use Rattle.reports.specs.Replays.{TellsReplay}
 use Rattle.prover.specs.declared.answer.Answer.{Answer}
 use Rattle.prover.specs.declared.answer.Answer.TheVariants as answers
 use Rattle.reports.specs.declared.steps.Replayed.{Replayed}
@@ -32,15 +32,15 @@ large_no_formula : (read whole : List ℕ) (reason : Reason) → IsTooLarge read
 large_no_formula read whole reason large all (inl is) = inl (large_program_reason read whole reason large all is)
 large_no_formula read whole reason large all (inr none) = absurd (no_program read none.0 large none.1)
 
-large_answer : (read whole : List ℕ) (a : Answer) → IsTooLarge read → IsTooLarge whole → Answers read a → Answers whole a
+large_answer : (read whole : List ℕ) (a : Answer) → IsTooLarge read → IsTooLarge whole → IsAnswer read a → IsAnswer whole a
 large_answer read whole (answers.NoDeadlock evidence) large all is = absurd (none_refuted read evidence large is.1)
 large_answer read whole (answers.Deadlock evidence) large all is = absurd (none_shown read evidence large is)
 large_answer read whole (answers.Unknown why) large all (inl memory) = inl memory
 large_answer read whole (answers.Unknown why) large all (inr within) = absurd (no_program read within.0 large within.1)
 large_answer read whole (answers.Refused reason) large all is = (large_no_formula read whole reason large all is.0, is.1)
 
-pub whole_answer : (read whole : List ℕ) (a : Answer) → AreAlikePrograms read whole → Answers read a → Answers whole a
-whole_answer read whole a = of_program (λ (text : List ℕ). Answers text a) read whole (large_answer read whole a)
+pub whole_answer : (read whole : List ℕ) (a : Answer) → AreAlikePrograms read whole → IsAnswer read a → IsAnswer whole a
+whole_answer read whole a = of_program (λ (text : List ℕ). IsAnswer text a) read whole (large_answer read whole a)
 
 large_finish : (budget : ℕ) (read whole : List ℕ) (a : Answer) → IsTooLarge read → IsTooLarge whole → FinishesIfUnknown budget read a → FinishesIfUnknown budget whole a
 large_finish budget read whole (answers.NoDeadlock evidence) large all finishes = tt
@@ -66,21 +66,21 @@ whole_no_formula read whole reason = of_program (λ (text : List ℕ). HasNoForm
 
 -- ---- replays
 
-large_replay : (lines : Bool) (read whole evidence : List ℕ) (r : Replayed) → IsTooLarge read → IsTooLarge whole → Replays lines read evidence r
-    → Replays lines whole evidence r
+large_replay : (lines : Bool) (read whole evidence : List ℕ) (r : Replayed) → IsTooLarge read → IsTooLarge whole → TellsReplay lines read evidence r
+    → TellsReplay lines whole evidence r
 large_replay lines read whole evidence (replays.Stuck text) large all is = absurd (none_shown read evidence large is.0)
 large_replay lines read whole evidence (replays.Refused reason) large all is = (large_reason read whole evidence reason large all is.0, is.1)
 large_replay lines read whole evidence replays.NotASchedule large all is = absurd (no_program read is.p large is.text)
 
-stray_replay : (lines : Bool) (program read whole : List ℕ) (r : Replayed) → IsStray read → IsStray whole → Replays lines program read r → Replays lines program whole r
+stray_replay : (lines : Bool) (program read whole : List ℕ) (r : Replayed) → IsStray read → IsStray whole → TellsReplay lines program read r → TellsReplay lines program whole r
 stray_replay lines program read whole (replays.Stuck text) stray all is = absurd (none_shows program read stray is.0)
 stray_replay lines program read whole (replays.Refused reason) stray all is = (stray_reason program read whole reason stray all is.0, is.1)
 stray_replay lines program read whole replays.NotASchedule stray all is = absurd (no_evidence read (Refutation is.claim) stray is.refutation)
 
 pub whole_replay : (lines : Bool) (program whole_program evidence whole_evidence : List ℕ) (r : Replayed) → AreAlikePrograms program whole_program
-    → AreAlikeEvidences evidence whole_evidence → Replays lines program evidence r → Replays lines whole_program whole_evidence r
+    → AreAlikeEvidences evidence whole_evidence → TellsReplay lines program evidence r → TellsReplay lines whole_program whole_evidence r
 whole_replay lines program whole_program evidence whole_evidence r =
-    of_both (λ (p e : List ℕ). Replays lines p e r) program whole_program evidence whole_evidence
+    of_both (λ (p e : List ℕ). TellsReplay lines p e r) program whole_program evidence whole_evidence
     (large_replay lines program whole_program evidence r) (stray_replay lines whole_program evidence whole_evidence r)
 
 -- ---- explanations

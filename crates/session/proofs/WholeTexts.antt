@@ -9,7 +9,7 @@ use Rattle.callorder.specs.Programs.{MpiProgram}
 use Rattle.callorder.specs.Resolving.{IsTextOf}
 use Rattle.prooflog.specs.declared.evidence.Evidence.TheVariants.{Schedule, Refutation}
 use Rattle.checker.specs.Headline.{Shows}
-use Rattle.checker.specs.Verdicts.{IsProgramReason, IsReason, Judges, Refutes}
+use Rattle.checker.specs.Verdicts.{IsProgramReason, IsReason, Judges, RefutesProgram}
 use Rattle.checker.specs.declared.reason.Reason.{Reason}
 use Rattle.checker.specs.declared.reason.Reason.TheVariants as reasons
 use Rattle.checker.specs.declared.reason.Verdict.{Verdict}
@@ -73,7 +73,7 @@ large_reason read whole evidence (reasons.NotStuck end) large all is = absurd (n
 pub large_program_reason : (read whole : List ℕ) (reason : Reason) → IsTooLarge read → IsTooLarge whole → IsProgramReason read reason → IsProgramReason whole reason
 large_program_reason read whole reason large all is = (is.0, λ evidence. large_reason read whole evidence reason large all (is.1 evidence))
 
-pub none_refuted : (program evidence : List ℕ) → IsTooLarge program → Refutes program evidence → ⊥
+pub none_refuted : (program evidence : List ℕ) → IsTooLarge program → RefutesProgram program evidence → ⊥
 none_refuted program evidence large refutes = no_program program refutes.p large refutes.text
 
 pub none_shown : (program evidence : List ℕ) → IsTooLarge program → Shows program evidence → ⊥
@@ -95,7 +95,7 @@ stray_reason program read whole (reasons.Unneeded number) stray all is = absurd 
 stray_reason program read whole (reasons.Replay at) stray all is = absurd (no_evidence read (Schedule is.steps) stray is.schedule)
 stray_reason program read whole (reasons.NotStuck end) stray all is = absurd (no_evidence read (Schedule is.steps) stray is.schedule)
 
-pub none_refutes : (program evidence : List ℕ) → IsStray evidence → Refutes program evidence → ⊥
+pub none_refutes : (program evidence : List ℕ) → IsStray evidence → RefutesProgram program evidence → ⊥
 none_refutes program evidence stray refutes = no_evidence evidence (Refutation refutes.claim) stray refutes.refutation
 
 pub none_shows : (program evidence : List ℕ) → IsStray evidence → Shows program evidence → ⊥

@@ -2,7 +2,7 @@
 use Rattle.std.specs.Prelude.{◌≡◌, ◌⊎◌, ℕ, List, Option, codes}
 use Rattle.pool.specs.declared.why.Why.{Why}
 use Rattle.pool.specs.declared.why.Why.TheVariants as whys
-use Rattle.progress.specs.Telling.{IsTold}
+use Rattle.progress.specs.Telling.{AppendsAtMost}
 use Rattle.prover.specs.declared.answer.Answer.{Answer}
 use Rattle.prover.specs.declared.answer.Answer.TheVariants as answers
 
@@ -21,10 +21,10 @@ next_line = codes "progress: mpiprove explain PROGRAM tells where it gets stuck,
 -- what helps, or a beginning of it where the output failed, or nothing, where memory ran out; and
 -- else nothing
 abbrev pub IsAdvisedOn : Answer → Option (List ℕ) → Option (List ℕ) → Type 0
-IsAdvisedOn (answers.Unknown why) told_old told_new = IsTold told_old told_new (advice_line why)
+IsAdvisedOn (answers.Unknown why) told_old told_new = AppendsAtMost told_old told_new (advice_line why)
 IsAdvisedOn (answers.NoDeadlock evidence) told_old told_new = told_new ≡ told_old
-IsAdvisedOn (answers.Deadlock evidence) told_old told_new = IsTold told_old told_new next_line
-IsAdvisedOn (answers.Refused reason) told_old told_new = (told_new ≡ told_old) ⊎ ((help : List ℕ) × IsTold told_old told_new help)
+IsAdvisedOn (answers.Deadlock evidence) told_old told_new = AppendsAtMost told_old told_new next_line
+IsAdvisedOn (answers.Refused reason) told_old told_new = (told_new ≡ told_old) ⊎ ((help : List ℕ) × AppendsAtMost told_old told_new help)
 
 -- the same of some answer, or nothing is told
 abbrev pub IsAdvised : Option (List ℕ) → Option (List ℕ) → Type 0

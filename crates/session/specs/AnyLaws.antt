@@ -21,13 +21,13 @@ use Rattle.session.specs.Unrolling.{barriers_in}
 
 -- the words ask for this task, and the run ends as it does, or by want of memory before the task is
 -- known
-abbrev pub IsAnswered : SessionRun → Task → Type 0
-IsAnswered run task = (AskFor run.words task × TaskEnds run task) ⊎ FailsEarly run
+abbrev pub IsTaskAnswered : SessionRun → Task → Type 0
+IsTaskAnswered run task = (AskFor run.words task × TaskEnds run task) ⊎ FailsEarly run
 
 -- a run of words in their usual order, where no file's name begins with a hyphen, answers their
 -- task; a number that isn't given is the usual one
 abbrev pub PlainWordsAreAnswered : Type 0
-PlainWordsAreAnswered = (run : SessionRun) (task : Task) → SessionEnds run → PlainForm run.words task → IsAnswered run task
+PlainWordsAreAnswered = (run : SessionRun) (task : Task) → SessionEnds run → PlainForm run.words task → IsTaskAnswered run task
 
 -- ---- a deadlock that any run told
 

@@ -2,7 +2,7 @@
 use Rattle.std.specs.Prelude.{◌≡◌, ◌≢◌, ◌⊎◌, ℕ, Bool, List, Some, IsTrue}
 use Rattle.clap.specs.Words.{Text}
 use Rattle.checker.specs.Headline.{IsNeverStuck, Shows}
-use Rattle.checker.specs.Verdicts.{Refutes}
+use Rattle.checker.specs.Verdicts.{RefutesProgram}
 use Rattle.reports.specs.Replays.{TellsRun}
 use Rattle.command_line.specs.Requests.{AskFor, to_encode}
 use Rattle.session.specs.Asking.{AskToCheck, AskToReplay, DeadlockIsShown, ShownIsTold, TellsSafety}
@@ -33,7 +33,7 @@ CheckedSafetyIsTrue =
 abbrev pub RefutedIsChecked : Type 0
 RefutedIsChecked =
     (run : SessionRun) (as_json : Bool) (p e : Text) (program evidence : List ℕ) → SessionEnds run → AskToCheck as_json run.words p e
-    → run.before p ≡ Some program → run.before e ≡ Some evidence → Refutes program evidence
+    → run.before p ≡ Some program → run.before e ≡ Some evidence → RefutesProgram program evidence
     → (run.status ≡ 0) ⊎ ((run.status ≡ 4) ⊎ (run.status ≡ 5))
 
 -- a check with the status 0 printed the line that tells that there is no deadlock, as JSON where

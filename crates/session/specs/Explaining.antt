@@ -10,7 +10,7 @@ use Rattle.deciding.specs.declared.texts.Undecided.{Undecided}
 use Rattle.deciding.specs.declared.texts.Undecided.TheVariants as undecided
 use Rattle.checker.specs.declared.reason.Reason.{Reason}
 use Rattle.checker.specs.declared.reason.Reason.TheVariants as reasons
-use Rattle.prover.specs.Answers.{Answers, FinishesIfUnknown}
+use Rattle.prover.specs.Answers.{IsAnswer, FinishesIfUnknown}
 use Rattle.prover.specs.declared.answer.Answer.{Answer}
 use Rattle.prover.specs.declared.answer.Answer.TheVariants as answers
 use Rattle.options.specs.declared.form.Form.{Form}
@@ -22,7 +22,7 @@ use Rattle.session.specs.declared.told.Outcome.TheVariants as told
 use Rattle.session.specs.declared.page.Want.{Want}
 use Rattle.session.specs.declared.page.Want.TheVariants as want
 use Rattle.session.specs.Lines.{IsLine, Says, object_with, told_status}
-use Rattle.session.specs.Pages.{IsEither, IsProgram, IsRacePage}
+use Rattle.session.specs.Pages.{IsEither, IsProgramFile, IsRacePage}
 
 -- the form is a JSON object
 abbrev pub is_object : Form → Bool
@@ -62,8 +62,8 @@ IsExplained program_file evidence_file form text status =
 
 -- the page tells what the evidence shows of the program: that no run of it ends stuck, with the
 -- status 0, or that one does, with the status 1
-abbrev pub IsFound : Form → List ℕ → List ℕ → List ℕ → ℕ → Type 0
-IsFound form program evidence text status =
+abbrev pub IsFoundPage : Form → List ℕ → List ℕ → List ℕ → ℕ → Type 0
+IsFoundPage form program evidence text status =
     ((words : Vec ℕ) × Explains form program evidence (explanations.NoDeadlock words) × (text ≡ words.items) × (status ≡ 0))
     ⊎ ((words : Vec ℕ) × Explains form program evidence (explanations.Deadlock words) × (text ≡ words.items) × (status ≡ 1))
 
@@ -71,8 +71,8 @@ IsFound form program evidence text status =
 -- that tells that none is known; and of a program that is too large for a search, or refused for
 -- want of memory, the page of the race that one run told
 abbrev pub IsAnswerPage : Form → List ℕ → Race → Answer → List ℕ → ℕ → Type 0
-IsAnswerPage form program race (answers.NoDeadlock evidence) text status = IsFound form program evidence text status
-IsAnswerPage form program race (answers.Deadlock evidence) text status = IsFound form program evidence text status
+IsAnswerPage form program race (answers.NoDeadlock evidence) text status = IsFoundPage form program evidence text status
+IsAnswerPage form program race (answers.Deadlock evidence) text status = IsFoundPage form program evidence text status
 IsAnswerPage form program race (answers.Unknown why) text status = IsLine (told.Unknown why) (is_object form) text status
 IsAnswerPage form program race (answers.Refused reason) text status = IsRacePage (is_object form) program race text status
 
@@ -81,7 +81,7 @@ IsAnswerPage form program race (answers.Refused reason) text status = IsRacePage
 -- finishes
 abbrev pub IsSearched : ℕ → Form → List ℕ → Race → List ℕ → ℕ → Type 0
 IsSearched budget form program race text status =
-    (a : Answer) × Answers program a × FinishesIfUnknown budget program a × IsAnswerPage form program race a text status
+    (a : Answer) × IsAnswer program a × FinishesIfUnknown budget program a × IsAnswerPage form program race a text status
 
 -- the page that tells why a program isn't decided, and what helps
 abbrev pub IsUndecidedPage : Bool → Undecided → List ℕ → ℕ → Type 0
@@ -111,7 +111,7 @@ IsExplainPage held program (Some evidence) budget form = IsExplained (held progr
 
 -- the file of `explain` that failed is one that is named, and it isn't told to be read
 abbrev pub IsExplainFile : (List ℕ → Bool) → List ℕ → Option (List ℕ) → List ℕ → Type 0
-IsExplainFile reads program None = IsProgram reads program
+IsExplainFile reads program None = IsProgramFile reads program
 IsExplainFile reads program (Some evidence) = IsEither reads program evidence
 
 -- without an evidence want of memory is told as of a search

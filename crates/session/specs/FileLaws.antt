@@ -2,7 +2,7 @@
 use Rattle.std.specs.Prelude.{◌≡◌, ◌≢◌, ℕ, Bool, false, List, Some, IsTrue}
 use Rattle.clap.specs.Words.{Text}
 use Rattle.checker.specs.Headline.{IsNeverStuck}
-use Rattle.checker.specs.Verdicts.{Refutes}
+use Rattle.checker.specs.Verdicts.{RefutesProgram}
 use Rattle.reports.specs.Exports.{Exports}
 use Rattle.reports.specs.Trimming.{Shortens}
 use Rattle.reports.specs.declared.trimmed.Shortened.{Shortened}
@@ -46,6 +46,6 @@ pub record TrimmedRefutationIsWritten : Type 0 where
   pub written : (run : SessionRun) (e out : Text) (as_json : Bool) (evidence : List ℕ) → SessionEnds run → AskFor run.words (to_trim e out as_json)
       → IsTrue run.tells.writes → run.before e ≡ Some evidence → run.status ≡ 0
       → (s : Shortened) × Shortens evidence s × (run.after out ≡ Some s.text.items)
-      × ((program : List ℕ) → Refutes program evidence → Refutes program s.text.items)
+      × ((program : List ℕ) → RefutesProgram program evidence → RefutesProgram program s.text.items)
       × PrintsAlone run (line_text as_json (lines_words s.before s.after) 0) 0
   pub never_stuck : (run : SessionRun) (e out : Text) (as_json : Bool) → SessionEnds run → AskFor run.words (to_trim e out as_json) → run.status ≢ 1

@@ -11,7 +11,7 @@ use Rattle.deciding.specs.declared.decision.Race.{Race}
 use Rattle.command_line.specs.Requests.{AskFor, to_decide_phases, to_join, to_phases}
 use Rattle.session.specs.Asking.{TellsDeadlock, TellsSafety}
 use Rattle.session.specs.Endings.{SessionEnds}
-use Rattle.session.specs.Phasing.{Cut, IsCut, IsWhole, Part, count_jobs, cut_line, job_lines, order_lines, path_in, text_path}
+use Rattle.session.specs.Phasing.{PhaseCut, IsPhaseCut, IsWhole, Part, count_jobs, cut_line, job_lines, order_lines, path_in, text_path}
 use Rattle.session.specs.Runs.{SessionRun}
 use Rattle.session.specs.Ties.{AreToldTies}
 
@@ -45,9 +45,9 @@ CutsStayInFolder =
 -- for each of some ties of the program: a call that takes any source, and a send that fits it.
 -- Where the files tell what is written, each different phase's file has its text, `jobs` the paths
 -- of those that have to be proved, and `phases` the order. No other file has changed.
-pub record IsLeft (run : SessionRun) (folder : Text) (program : List ℕ) : Type 0 where
-  pub cut : Cut
-  pub is : IsCut cut
+pub record HasLeftCut (run : SessionRun) (folder : Text) (program : List ℕ) : Type 0 where
+  pub cut : PhaseCut
+  pub is : IsPhaseCut cut
   pub whole : IsWhole program cut
   pub told : List ℕ
   pub ties : AreToldTies program whole.p told
@@ -65,4 +65,4 @@ abbrev pub CutsAreWritten : Type 0
 CutsAreWritten =
     (run : SessionRun) (p folder : Text) (program : List ℕ) → SessionEnds run → AskFor run.words (to_phases p folder)
     → run.before p ≡ Some program → run.status ≡ 0
-    → (IsNeverStuckWithin long program × (run.after ≡ run.before)) ⊎ ((race : Race) × HasRace program race × IsLeft run folder program)
+    → (IsNeverStuckWithin long program × (run.after ≡ run.before)) ⊎ ((race : Race) × HasRace program race × HasLeftCut run folder program)

@@ -16,8 +16,8 @@ use Rattle.deciding.specs.declared.decision.Decision.TheVariants as decisions
 use Rattle.deciding.specs.declared.texts.Undecided.{Undecided}
 use Rattle.deciding.specs.declared.texts.Undecided.TheVariants as undecided
 use Rattle.cutting.specs.declared.whole.Phases.{Phases}
-use Rattle.session.specs.Lines.{BeginsWith, IsLine, line_text}
-use Rattle.session.specs.Pages.{IsDecideFile, IsDecisionPage, IsProgram, IsScheduled, IsUnread, IsWritten}
+use Rattle.session.specs.Lines.{BeginsWithFront, IsLine, line_text}
+use Rattle.session.specs.Pages.{IsDecideFile, IsDecisionPage, IsProgramFile, IsScheduled, IsUnreadFile, IsWritten}
 use Rattle.session.specs.Ties.{AreToldTies}
 use Rattle.session.specs.declared.told.Outcome.TheVariants as told
 
@@ -33,7 +33,7 @@ is_race (Err why) = false
 -- the line that tells that phases don't decide the program, and which of them lacks what
 abbrev pub IsLackingLine : Bool → List ℕ → ℕ → Type 0
 IsLackingLine json text status =
-    (words : List ℕ) × BeginsWith words (codes "unknown phases") × (text ≡ line_text json words 2) × (status ≡ 2)
+    (words : List ℕ) × BeginsWithFront words (codes "unknown phases") × (text ≡ line_text json words 2) × (status ≡ 2)
 
 -- Phases show that no run of the program gets stuck, and that is told; or a run that does, whose
 -- schedule is written; or what they lack is told. But for a schedule all files are as before.
@@ -68,7 +68,7 @@ path_in folder name = folder ++ (codes "/" ++ name)
 -- order of the phases, and no file has changed
 abbrev pub IsJoinFile : (List ℕ → Bool) → List ℕ → List ℕ → Option (List ℕ) → (List ℕ → Option (List ℕ)) → (List ℕ → Option (List ℕ)) → List ℕ → Type 0
 IsJoinFile reads program folder out old new path =
-    IsDecideFile reads program out old new path ⊎ ((path ≡ folder) × IsUnread reads (path_in folder (codes "phases")) × (new ≡ old))
+    IsDecideFile reads program out old new path ⊎ ((path ≡ folder) × IsUnreadFile reads (path_in folder (codes "phases")) × (new ≡ old))
 
 -- ---- cutting
 
@@ -83,18 +83,18 @@ pub record Part : Type 0 where
 
 -- What a program is cut into: the phases that differ, and of each phase, one after another, the
 -- number of its like among these, from 1.
-pub record Cut : Type 0 where
+pub record PhaseCut : Type 0 where
   pub parts : List Part
   pub order : List ℕ
 
 -- One run tells of a phase that it is decided, or that its text is none of a program, unless it has
 -- to be proved: then messages of that run may race. Want of memory tells nothing.
-abbrev pub IsPart : Part → Type 0
-IsPart part = (d : Result Decision Undecided) × IsDecided part.text d × (d ≢ Err undecided.Memory) × (is_race d ≡ part.job)
+abbrev pub IsPartOfCut : Part → Type 0
+IsPartOfCut part = (d : Result Decision Undecided) × IsDecided part.text d × (d ≢ Err undecided.Memory) × (is_race d ≡ part.job)
 
 -- each number of the order is that of a phase, and each phase is in the order
-pub record IsCut (cut : Cut) : Type 0 where
-  pub parts : AllByRecursion IsPart cut.parts
+pub record IsPhaseCut (cut : PhaseCut) : Type 0 where
+  pub parts : AllByRecursion IsPartOfCut cut.parts
   pub known : (place number : ℕ) → slice_get cut.order place ≡ Some number → (0 < number) × (number ≤ length cut.parts)
   pub used : (number : ℕ) → 0 < number → number ≤ length cut.parts → (place : ℕ) × (slice_get cut.order place ≡ Some number)
 
@@ -110,7 +110,7 @@ cut_line phases different jobs =
 
 -- that line of a cut of the program of a text, and below it what is told of phases that are too
 -- large for a search
-abbrev pub IsCutLine : List ℕ → MpiProgram → Cut → List ℕ → ℕ → Type 0
+abbrev pub IsCutLine : List ℕ → MpiProgram → PhaseCut → List ℕ → ℕ → Type 0
 IsCutLine program p cut text status =
     (told : List ℕ) × AreToldTies program p told × (text ≡ cut_line (length cut.order) (length cut.parts) (count_jobs cut.parts) ++ told) × (status ≡ 0)
 
@@ -127,18 +127,18 @@ IsDealt programs number q part = (slice_get programs number ≡ Some part) × Is
 
 -- The programs of these numbers, from 0, are taken off the first program, each off what those
 -- before it leave, and the second program is what all leave.
-abbrev pub AreDealt : List MpiProgram → MpiProgram → List ℕ → MpiProgram → Type 0
-AreDealt programs p [] q = p ≡ q
-AreDealt programs p (number ∷ order) q = (part : MpiProgram) × IsDealt programs number p part × AreDealt programs (behind p part) order q
+abbrev pub AreDealtInOrder : List MpiProgram → MpiProgram → List ℕ → MpiProgram → Type 0
+AreDealtInOrder programs p [] q = p ≡ q
+AreDealtInOrder programs p (number ∷ order) q = (part : MpiProgram) × IsDealt programs number p part × AreDealtInOrder programs (behind p part) order q
 
 -- The texts make up the program in this order, in which numbers are from 0, as phases are dealt by
 -- `join`: at each rank the calls of each are the first that those before it leave, and none is left
 -- behind the last.
-pub record MakeUp (p : MpiProgram) (phases : Phases) : Type 0 where
+pub record MakeUpProgram (p : MpiProgram) (phases : Phases) : Type 0 where
   pub programs : List MpiProgram
   pub left : MpiProgram
   pub texts : ArePrograms phases.texts.items programs
-  pub dealt : AreDealt programs p phases.order.items left
+  pub dealt : AreDealtInOrder programs p phases.order.items left
   pub nothing : left.calls ≡ []
 
 -- ---- the files of a cut
@@ -175,7 +175,7 @@ text_files folder number [] = []
 text_files folder number (part ∷ parts) = record { path = text_path folder number; text = part.text } ∷ text_files folder (number + 1) parts
 
 -- the text of each phase that differs; the paths of those that have to be proved; and the order
-abbrev pub cut_files : List ℕ → Cut → List FileText
+abbrev pub cut_files : List ℕ → PhaseCut → List FileText
 cut_files folder cut =
     text_files folder 1 cut.parts
     ++ (record { path = path_in folder (codes "jobs"); text = job_lines folder 1 cut.parts }
@@ -195,26 +195,26 @@ abbrev pub HaveTexts : List Part → List (Vec ℕ) → Type 0
 HaveTexts parts texts = map (λ part. part.text) parts ≡ map (λ text. text.items) texts
 
 -- the cut has these texts, and they follow one another in this order, in which numbers are from 0
-pub record IsCutOf (phases : Phases) (cut : Cut) : Type 0 where
+pub record IsCutOf (phases : Phases) (cut : PhaseCut) : Type 0 where
   pub texts : HaveTexts cut.parts phases.texts.items
   pub order : cut.order ≡ map (λ number. number + 1) phases.order.items
 
 -- The bytes are the text of a program, within the long limits, that the phases make up in this
 -- order.
-pub record IsWhole (program : List ℕ) (cut : Cut) : Type 0 where
+pub record IsWhole (program : List ℕ) (cut : PhaseCut) : Type 0 where
   pub p : MpiProgram
   pub phases : Phases
   pub is_text : IsTextOfWithin long program p
   pub of : IsCutOf phases cut
-  pub made : MakeUp p phases
+  pub made : MakeUpProgram p phases
 
 -- ---- the page of a cut
 
 -- the program is cut, how it is cut is told, and the files of the cut are written, as far as their
 -- set tells what is written; no other file has changed
 pub record IsWrittenCut (tells : Bool) (old new : List ℕ → Option (List ℕ)) (folder program text : List ℕ) (status : ℕ) : Type 0 where
-  pub cut : Cut
-  pub is : IsCut cut
+  pub cut : PhaseCut
+  pub is : IsPhaseCut cut
   pub whole : IsWhole program cut
   pub line : IsCutLine program whole.p cut text status
   pub files : IsTrue tells → Hold (cut_files folder cut) new
@@ -238,4 +238,4 @@ IsCutPage tells old new path folder text status =
 -- the file that failed is the program's, and no file has changed; or it is told as the folder, and
 -- one there can't be written
 abbrev pub IsCutFile : (List ℕ → Bool) → List ℕ → List ℕ → (List ℕ → Option (List ℕ)) → (List ℕ → Option (List ℕ)) → List ℕ → Type 0
-IsCutFile reads program folder old new path = (IsProgram reads program path × (new ≡ old)) ⊎ (path ≡ folder)
+IsCutFile reads program folder old new path = (IsProgramFile reads program path × (new ≡ old)) ⊎ (path ≡ folder)

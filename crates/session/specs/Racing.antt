@@ -8,12 +8,12 @@ use Rattle.deciding.specs.declared.decision.Race.{Race}
 use Rattle.session.specs.Lines.{object_with}
 
 -- for each call of a text, in order, the number of the line that it stands in, from 1
-abbrev pub lines_of : ProgramText → List ℕ
-lines_of text = map (line_of_part text) (parts_of_text text)
+abbrev pub call_line_numbers : ProgramText → List ℕ
+call_line_numbers text = map (line_of_part text) (parts_of_text text)
 
 -- a call, by its line and its rank
-abbrev pub call_words : List ℕ → Caller → List ℕ
-call_words lines call = codes "line " ++ (decimal (slice_index lines call.place) ++ (codes " of rank " ++ decimal call.rank))
+abbrev pub caller_words : List ℕ → Caller → List ℕ
+caller_words lines call = codes "line " ++ (decimal (slice_index lines call.place) ++ (codes " of rank " ++ decimal call.rank))
 
 -- which call takes any source, what it found, and what may come first
 abbrev pub race_sentence : List ℕ → List ℕ → List ℕ → List ℕ
@@ -21,7 +21,7 @@ race_sentence finder found other =
     finder ++ (codes " takes any source: it found " ++ (found ++ (codes ", and " ++ (other ++ codes " may come first\n"))))
 
 abbrev pub race_line : List ℕ → Race → List ℕ
-race_line lines race = race_sentence (call_words lines race.finder) (call_words lines race.found) (call_words lines race.other)
+race_line lines race = race_sentence (caller_words lines race.finder) (caller_words lines race.found) (caller_words lines race.other)
 
 -- the same as members of JSON objects
 abbrev pub call_object : List ℕ → Caller → List ℕ

@@ -3,7 +3,7 @@ use Rattle.std.specs.Prelude.{◌≡◌, ◌⊎◌, ℕ, Bool, List, Option}
 use Rattle.std.specs.Io.KnownBytes.{Appends}
 use Rattle.clap.specs.Words.{Text}
 use Rattle.files.specs.Contents.{AppendsPart}
-use Rattle.progress.specs.Telling.{IsTold}
+use Rattle.progress.specs.Telling.{AppendsAtMost}
 use Rattle.session.specs.Lines.{file_line, memory_line}
 use Rattle.session.specs.declared.page.Want.{Want}
 
@@ -40,7 +40,7 @@ PrintsAlone run text own = Prints run text own × (run.errors_after ≡ run.erro
 -- the text is told on standard error, or a beginning of it where standard error failed, with this
 -- status, while standard output stays as it was
 abbrev pub Complains : SessionRun → List ℕ → ℕ → Type 0
-Complains run text own = (run.status ≡ own) × (run.out_after ≡ run.out_before) × IsTold run.errors_before run.errors_after text
+Complains run text own = (run.status ≡ own) × (run.out_after ≡ run.out_before) × AppendsAtMost run.errors_before run.errors_after text
 
 -- the same, of any page of this kind and one of these files; where want of memory is told all files
 -- are as before

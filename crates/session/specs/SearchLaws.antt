@@ -9,9 +9,9 @@ use Rattle.deciding.specs.Schedules.{schedule_text}
 use Rattle.deciding.specs.declared.decision.Race.{Race}
 use Rattle.options.specs.declared.form.Form.{Form}
 use Rattle.checker.specs.Headline.{IsNeverStuck, Shows}
-use Rattle.checker.specs.Verdicts.{Refutes}
+use Rattle.checker.specs.Verdicts.{RefutesProgram}
 use Rattle.checker.specs.declared.reason.Reason.{Reason}
-use Rattle.prover.specs.Answers.{Answers, CanFinish}
+use Rattle.prover.specs.Answers.{IsAnswer, CanFinish}
 use Rattle.prover.specs.declared.answer.Answer.TheVariants as answers
 use Rattle.command_line.specs.Requests.{AskFor, to_decide}
 use Rattle.session.specs.Asking.{AskToExplain, AskToExplainBy, AskToProve, DeadlockIsShown, TellsDeadlock, TellsSafety, TellsUnknown}
@@ -48,7 +48,7 @@ abbrev pub WrittenSafetyIsRefuted : Type 0
 WrittenSafetyIsRefuted =
     (run : SessionRun) (p file : Text) (budget : ℕ) (progress as_json : Bool) (program : List ℕ)
     → SessionEnds run → AskToProve run.words p (Some file) budget progress as_json → IsTrue run.tells.writes → run.before p ≡ Some program
-    → TellsSafety run → (evidence : List ℕ) × (run.after file ≡ Some evidence) × Refutes program evidence
+    → TellsSafety run → (evidence : List ℕ) × (run.after file ≡ Some evidence) × RefutesProgram program evidence
 
 -- a search with the status 0 printed the line that tells that there is no deadlock, as JSON where
 -- the words ask for that, and before that told its progress on standard error, where they ask for
@@ -99,7 +99,7 @@ abbrev pub ExplainedUnknownFinishes : Type 0
 ExplainedUnknownFinishes =
     (run : SessionRun) (p : Text) (e : Option Text) (budget : ℕ) (form : Form) (program : List ℕ)
     → SessionEnds run → AskToExplain run.words p e budget form → 0 < budget → run.before p ≡ Some program → run.status ≡ 2
-    → (e ≡ None) × ((race : Race) × HasRace program race) × (CanFinish program ⊎ ((reason : Reason) × Answers program (answers.Refused reason)))
+    → (e ≡ None) × ((race : Race) × HasRace program race) × (CanFinish program ⊎ ((reason : Reason) × IsAnswer program (answers.Refused reason)))
 
 -- ---- decide
 

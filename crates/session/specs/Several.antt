@@ -13,7 +13,7 @@ use Rattle.junit.specs.Report.{Case, IsOf, report_text}
 use Rattle.junit.specs.declared.report.Outcome.{Outcome}
 use Rattle.junit.specs.declared.report.Outcome.TheVariants.{Passed, Failed, Broken}
 use Rattle.session.specs.Explaining.{IsDecidedFirst}
-use Rattle.session.specs.Pages.{IsDecisionPage, IsUnread, IsWritten}
+use Rattle.session.specs.Pages.{IsDecisionPage, IsUnreadFile, IsWritten}
 use Rattle.session.specs.declared.several.Answers.{Answers}
 use Rattle.session.specs.Sweeping.{Row, form_of_answer, gravest}
 
@@ -63,7 +63,7 @@ pub record IsOfEach (IsPage : List ℕ → List ℕ → ℕ → Type 0) (tells :
   pub reported : IsWritten tells old new junit (report_text (cases_of paths rows))
 
 -- what is told of the programs at these paths, in rows and in a report
-pub record AreAnswered (IsPage : List ℕ → List ℕ → ℕ → Type 0) (form : Form) (paths : List (List ℕ)) (answers : Answers) : Type 0 where
+pub record ArePathsAnswered (IsPage : List ℕ → List ℕ → ℕ → Type 0) (form : Form) (paths : List (List ℕ)) (answers : Answers) : Type 0 where
   pub rows : List Row
   pub are : AreRowsOf IsPage paths rows
   pub is_text : answers.text.items ≡ file_rows form paths rows
@@ -89,7 +89,7 @@ IsExplainedEach tells old new paths junit budget form text status = IsOfEach (Is
 
 -- the file that failed is one of these, it isn't told to be read, and no file has changed
 abbrev pub IsOneUnread : (List ℕ → Bool) → List (List ℕ) → (List ℕ → Option (List ℕ)) → (List ℕ → Option (List ℕ)) → List ℕ → Type 0
-IsOneUnread reads paths old new path = Contains paths path × IsUnread reads path × (new ≡ old)
+IsOneUnread reads paths old new path = Contains paths path × IsUnreadFile reads path × (new ≡ old)
 
 -- the file that failed is one of these; or it is the one that is named for a report
 abbrev pub IsFileOfEach : (List ℕ → Bool) → List (List ℕ) → Option (List ℕ) → (List ℕ → Option (List ℕ)) → (List ℕ → Option (List ℕ)) → List ℕ → Type 0

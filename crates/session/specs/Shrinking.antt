@@ -12,8 +12,8 @@ use Rattle.shrinking.specs.Mapping.{map_text}
 use Rattle.shrinking.specs.Told.{left_text}
 use Rattle.shrinking.specs.Shrinking.{CanHangLong, IsNotStuckLong, IsShrunk, IsShrunkLong}
 use Rattle.session.specs.Explaining.{IsUndecidedPage}
-use Rattle.session.specs.Pages.{ChangesAtMost, IsProgram, IsWritten}
-use Rattle.session.specs.Unrolling.{IsNamed}
+use Rattle.session.specs.Pages.{ChangesAtMost, IsProgramFile, IsWritten}
+use Rattle.session.specs.Unrolling.{IsNamedPath}
 
 -- the program is refused by `prove`, as one that is beyond its limits
 abbrev pub IsBeyond : List ℕ → Type 0
@@ -82,4 +82,4 @@ HasSmaller file = (program : List ℕ) × AreAll file program × Hangs program
 -- the file that failed is the program's, and no file has changed; or it is one of those that are
 -- named for the smaller program and its map, and there is a smaller program
 abbrev pub IsShrinkFile : (List ℕ → Bool) → List ℕ → Option (List ℕ) → Option (List ℕ) → (List ℕ → Option (List ℕ)) → (List ℕ → Option (List ℕ)) → List ℕ → Type 0
-IsShrinkFile reads program out map old new path = (IsProgram reads program path × (new ≡ old)) ⊎ (IsNamed out map path × HasSmaller (old program))
+IsShrinkFile reads program out map old new path = (IsProgramFile reads program path × (new ≡ old)) ⊎ (IsNamedPath out map path × HasSmaller (old program))

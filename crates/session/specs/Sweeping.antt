@@ -92,9 +92,9 @@ pub record Row : Type 0 where
   pub status : ℕ
 
 -- the rows are of such pages, for numbers of ranks that rise by one
-abbrev pub AreRows : (ℕ → List ℕ → ℕ → Type 0) → ℕ → List Row → Type 0
-AreRows IsPage ranks [] = Unit {0}
-AreRows IsPage ranks (row ∷ rows) = IsPage ranks row.page row.status × AreRows IsPage (suc ranks) rows
+abbrev pub AreRowsForRanks : (ℕ → List ℕ → ℕ → Type 0) → ℕ → List Row → Type 0
+AreRowsForRanks IsPage ranks [] = Unit {0}
+AreRowsForRanks IsPage ranks (row ∷ rows) = IsPage ranks row.page row.status × AreRowsForRanks IsPage (suc ranks) rows
 
 -- a row: the number of ranks stands before its page, in a JSON object as the first member
 abbrev pub row_text : Bool → ℕ → List ℕ → List ℕ
@@ -120,9 +120,9 @@ gravest rows = fold (λ status row. graver status row.status) 0 rows
 
 -- the table of pages for numbers of ranks from a first to a last: a row each, and the gravest
 -- status
-pub record IsTable (IsPage : ℕ → List ℕ → ℕ → Type 0) (json : Bool) (first last : ℕ) (text : List ℕ) (status : ℕ) : Type 0 where
+pub record IsPageTable (IsPage : ℕ → List ℕ → ℕ → Type 0) (json : Bool) (first last : ℕ) (text : List ℕ) (status : ℕ) : Type 0 where
   pub rows : List Row
-  pub are : AreRows IsPage first rows
+  pub are : AreRowsForRanks IsPage first rows
   pub all : first + length rows ≡ last + 1
   pub is_text : text ≡ rows_text json first rows
   pub is_status : status ≡ gravest rows
@@ -130,4 +130,4 @@ pub record IsTable (IsPage : ℕ → List ℕ → ℕ → Type 0) (json : Bool) 
 -- the page of `decide` for an SPMD text and numbers of ranks
 abbrev pub IsDecidedUnrolled : Option (List ℕ) → List ℕ → List (List ℕ) → Bool → Bool → ℕ → ℕ → List ℕ → ℕ → Type 0
 IsDecidedUnrolled file path settings barriers json first last text status =
-    (source : List ℕ) × AreAll file source × IsTable (IsPageFor path source settings barriers json (IsDecidedFor json)) json first last text status
+    (source : List ℕ) × AreAll file source × IsPageTable (IsPageFor path source settings barriers json (IsDecidedFor json)) json first last text status

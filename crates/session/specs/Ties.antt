@@ -5,7 +5,7 @@ use Rattle.calltext.specs.Grammar.{IsTextWithin, ProgramText}
 use Rattle.calltext.specs.Limits.{long}
 use Rattle.callorder.specs.Programs.{MpiProgram, are_fit}
 use Rattle.deciding.specs.Decisions.{IsCaller, takes_any_source}
-use Rattle.session.specs.Racing.{call_words, lines_of}
+use Rattle.session.specs.Racing.{caller_words, call_line_numbers}
 use Rattle.session.specs.declared.ties.NamedTie.{NamedTie}
 
 -- a call that takes any source, and a send that fits it
@@ -22,7 +22,7 @@ abbrev pub tie_sentence : List ℕ → List ℕ → List ℕ → List ℕ
 tie_sentence size finder send = size ++ (finder ++ (codes " takes any source, and " ++ (send ++ codes " isn't known to come later\n")))
 
 abbrev pub tie_line : List ℕ → NamedTie → List ℕ
-tie_line lines tie = tie_sentence (size_words tie.phase tie.events) (call_words lines tie.finder) (call_words lines tie.send)
+tie_line lines tie = tie_sentence (size_words tie.phase tie.events) (caller_words lines tie.finder) (caller_words lines tie.send)
 
 abbrev pub ties_text : List ℕ → List NamedTie → List ℕ
 ties_text lines ties = flat_map (tie_line lines) ties
@@ -33,7 +33,7 @@ pub record AreTies (program : List ℕ) (p : MpiProgram) (told : List ℕ) : Typ
   pub read : IsTextWithin long program text
   pub ties : List NamedTie
   pub all : AllByRecursion (IsTie p) ties
-  pub is : told ≡ ties_text (lines_of text) ties
+  pub is : told ≡ ties_text (call_line_numbers text) ties
 
 abbrev pub AreToldTies : List ℕ → MpiProgram → List ℕ → Type 0
 AreToldTies program p told = (told ≡ []) ⊎ AreTies program p told

@@ -3,7 +3,7 @@ use Rattle.std.specs.Prelude.{◌≡◌, ◌⊎◌, ℕ, Bool, true, false, List
 use Rattle.std.specs.Str.{bytes_eq}
 use Rattle.files.specs.Contents.{AreAll}
 use Rattle.spmd_program.specs.Unrolling.{IsMapWanted, IsRefusal, IsUnrolling}
-use Rattle.session.specs.Pages.{IsProgram, IsWritten}
+use Rattle.session.specs.Pages.{IsProgramFile, IsWritten}
 use Rattle.session.specs.declared.commands.Stop.{Stop}
 use Rattle.session.specs.declared.commands.Stop.TheVariants as stop
 
@@ -17,12 +17,12 @@ abbrev pub no_way : List ℕ
 no_way = codes "error: --collectives takes least or most\n"
 
 -- the path is one of the two that are named
-abbrev pub IsNamed : Option (List ℕ) → Option (List ℕ) → List ℕ → Type 0
-IsNamed out map path = (out ≡ Some path) ⊎ (map ≡ Some path)
+abbrev pub IsNamedPath : Option (List ℕ) → Option (List ℕ) → List ℕ → Type 0
+IsNamedPath out map path = (out ≡ Some path) ⊎ (map ≡ Some path)
 
 -- no file has changed but those at these paths, where they are named
 abbrev pub ChangesAtMostTwo : Option (List ℕ) → Option (List ℕ) → (List ℕ → Option (List ℕ)) → (List ℕ → Option (List ℕ)) → Type 0
-ChangesAtMostTwo out map old new = (path : List ℕ) → (IsNamed out map path → ⊥) → new path ≡ old path
+ChangesAtMostTwo out map old new = (path : List ℕ) → (IsNamedPath out map path → ⊥) → new path ≡ old path
 
 -- the file that failed is the one at this path
 abbrev pub IsFileOf : Option (List ℕ) → Stop → Type 0
@@ -71,4 +71,4 @@ CanUnroll file path ranks settings barriers mapped =
 -- named, and the text can be unrolled
 abbrev pub IsUnrollFile : (List ℕ → Bool) → List ℕ → ℕ → List (List ℕ) → Bool → Option (List ℕ) → Option (List ℕ) → (List ℕ → Option (List ℕ)) → (List ℕ → Option (List ℕ)) → List ℕ → Type 0
 IsUnrollFile reads path ranks settings barriers out map old new file =
-    (IsProgram reads path file × (new ≡ old)) ⊎ (IsNamed out map file × CanUnroll (old path) path ranks settings barriers (is_some map))
+    (IsProgramFile reads path file × (new ≡ old)) ⊎ (IsNamedPath out map file × CanUnroll (old path) path ranks settings barriers (is_some map))

@@ -1,7 +1,7 @@
 //! What is said beside the answer of a search.
 
 ghost use Rattle.std.specs.Prelude.{◌≡◌, ◌⊎◌, List, ℕ};
-ghost use Rattle.progress.specs.Telling.{IsTold};
+ghost use Rattle.progress.specs.Telling.{AppendsAtMost};
 ghost use Rattle.session.specs.Advice.{IsAdvisedOn, advice_line, next_line};
 
 use calltext::Limits;
@@ -34,7 +34,7 @@ fn advice_line(why: Why) -> &'static str
 
 /// Tells a text. Where the output fails, no more is told: the answer doesn't depend on it.
 fn tell<E: Write>(text: &[u8], err: &mut E)
-    ensures { IsTold (E.contents err.old) (E.contents err.new) text.now }
+    ensures { AppendsAtMost (E.contents err.old) (E.contents err.new) text.now }
 {
     match store(err, text) {
         Ok(()) => {}
@@ -45,7 +45,7 @@ fn tell<E: Write>(text: &[u8], err: &mut E)
 /// Tells what helps where a program is refused, as `explain` does. Where memory runs out, nothing
 /// is told: the answer doesn't depend on it.
 fn tell_help<E: Write>(alloc: Global, program: &[u8], reason: Reason, err: &mut E)
-    ensures { (E.contents err.new ≡ E.contents err.old) ⊎ ((help : List ℕ) × IsTold (E.contents err.old) (E.contents err.new) help) }
+    ensures { (E.contents err.new ≡ E.contents err.old) ⊎ ((help : List ℕ) × AppendsAtMost (E.contents err.old) (E.contents err.new) help) }
 {
     match help(alloc, Limits::short(), program, None, reason) {
         Ok(text) => tell(&text, err),

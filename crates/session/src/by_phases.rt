@@ -7,7 +7,7 @@ ghost use Rattle.command_line.specs.Requests.{path_of};
 ghost use Rattle.session.specs.Endings.{IsFollowedRun};
 ghost use Rattle.session.specs.Lines.{IsLine};
 ghost use Rattle.session.specs.parts.Pages.{StopsBy};
-ghost use Rattle.session.specs.Pages.{ChangesAtMost, IsDecideFile, IsUnread};
+ghost use Rattle.session.specs.Pages.{ChangesAtMost, IsDecideFile, IsUnreadFile};
 ghost use Rattle.session.specs.parts.Phasing.{IsFolderFile, IsShown, IsShownFile};
 ghost use Rattle.session.specs.Phasing.{IsJoinFile, IsJoinedPage, IsPhasesPage, file_name, is_race, path_in};
 
@@ -221,7 +221,7 @@ fn read_order<'a, F: FileSet>(
     ensures same { F.held files.new ≡ F.held files.old }
     ensures same_reads { F.reads files.new ≡ F.reads files.old }
     ensures stop { IfErr result (StopsBy
-        (λ path. (path ≡ folder.entry.now) × IsUnread (F.reads files.old) (path_in folder.entry.now (codes "phases")))
+        (λ path. (path ≡ folder.entry.now) × IsUnreadFile (F.reads files.old) (path_in folder.entry.now (codes "phases")))
         (F.held files.old) (F.held files.new)) }
 {
     match read_in(alloc, folder, "phases", files) {

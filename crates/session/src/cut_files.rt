@@ -3,8 +3,8 @@
 ghost use Rattle.std.specs.Prelude.{◌≡◌, ◌↔◌, ℕ, ◌+◌, ◌<◌, Bool, true, IsTrue, List, [], ◌∷◌, ◌++◌, length, map, Some, Err, IfErr, IfOk, OnOk, codes, decimal, slice_get, string_bytes};
 ghost use Rattle.cutting.specs.Orders.{IsOrder};
 ghost use Rattle.session.specs.parts.Pages.{StopsBy};
-ghost use Rattle.session.specs.parts.Phasing.{AreApart, AreOutputs, AreTexts, IsPageOf, files_of};
-ghost use Rattle.session.specs.Phasing.{ChangesThese, ChangesWithin, HaveTexts, Hold, IsCutFile, IsCutPage, IsPart, IsWrittenCut, Part, cut_line, order_lines, path_in};
+ghost use Rattle.session.specs.parts.Phasing.{ArePathsApart, AreOutputs, AreTexts, IsPageOf, files_of};
+ghost use Rattle.session.specs.Phasing.{ChangesThese, ChangesWithin, HaveTexts, Hold, IsCutFile, IsCutPage, IsPartOfCut, IsWrittenCut, Part, cut_line, order_lines, path_in};
 
 use crate::by_phases::{file_name, is_race, path_in};
 use crate::commands::{Stop, write};
@@ -55,7 +55,7 @@ fn put_file(
 
 /// Whether the phase of a text has to be proved: one run doesn't tell.
 fn is_job(alloc: Global, text: &[u8]) -> Result<bool, AllocError>
-    ensures { IfOk result (λ job. IsPart (record { text = text.now; job = job })) }
+    ensures { IfOk result (λ job. IsPartOfCut (record { text = text.now; job = job })) }
 {
     let decision = decide(alloc, text);
     if is_memory(&decision) {
@@ -172,7 +172,7 @@ fn write_all<'a, F: FileSet>(
     outputs: &[Output],
     files: &mut F,
 ) -> Result<(), Stop<'a>>
-    requires { AreApart (files_of outputs.now) }
+    requires { ArePathsApart (files_of outputs.now) }
     ensures held { OnOk result (IsTrue F.tells_written → Hold (files_of outputs.now) (F.held files.new)) }
     ensures others { ChangesThese (files_of outputs.now) (F.held files.old) (F.held files.new) }
     ensures stop { IfErr result (λ stop. stop ≡ Stop.File folder.entry) }

@@ -7,7 +7,7 @@ ghost use Rattle.command_line.specs.Requests.{path_of};
 ghost use Rattle.session.specs.Endings.{IsFollowedRun};
 ghost use Rattle.session.specs.Lines.{IsLine};
 ghost use Rattle.session.specs.parts.Pages.{IsScheduleFile, StopsBy};
-ghost use Rattle.session.specs.Pages.{ChangesAtMost, IsDecideFile, IsDecidedPage, IsDecisionPage, IsProgram, IsRacePage, IsScheduled, IsWritten};
+ghost use Rattle.session.specs.Pages.{ChangesAtMost, IsDecideFile, IsDecidedPage, IsDecisionPage, IsProgramFile, IsRacePage, IsScheduled, IsWritten};
 
 use crate::commands::{Stop, decided_page, read};
 use crate::page::{Page, page_of};
@@ -75,7 +75,7 @@ pub fn read_whole<'a, F: FileSet>(
     ensures bytes { IfOk result (λ bytes. AreAll (F.held files.old path.entry.now) bytes.items) }
     ensures same { F.held files.new ≡ F.held files.old }
     ensures same_reads { F.reads files.new ≡ F.reads files.old }
-    ensures stop { IfErr result (StopsBy (IsProgram (F.reads files.old) path.entry.now)
+    ensures stop { IfErr result (StopsBy (IsProgramFile (F.reads files.old) path.entry.now)
         (F.held files.old) (F.held files.new)) }
 {
     let bytes = read(alloc, path, &Extent::Most(usize::MAX), files)?;

@@ -5,9 +5,9 @@ ghost use Rattle.semantics.specs.Headline.{IsNeverStuckWithin, IsStuckRunWithin}
 ghost use Rattle.deciding.specs.Decisions.{Decides, IsDecided};
 ghost use Rattle.command_line.specs.Requests.{path_of};
 ghost use Rattle.reports.specs.Explanations.{IsRunDrawn, TellsSizes};
-ghost use Rattle.session.specs.Explaining.{IsAnswerPage, IsDecidedFirst, IsDecisionExplained, IsExplainFile, IsExplainPage, IsExplained, IsExplanationPage, IsFound, IsSearched, IsUndecidedPage, is_object};
+ghost use Rattle.session.specs.Explaining.{IsAnswerPage, IsDecidedFirst, IsDecisionExplained, IsExplainFile, IsExplainPage, IsExplained, IsExplanationPage, IsFoundPage, IsSearched, IsUndecidedPage, is_object};
 ghost use Rattle.session.specs.parts.Pages.{StopsBy};
-ghost use Rattle.session.specs.Pages.{IsEither, IsProgram};
+ghost use Rattle.session.specs.Pages.{IsEither, IsProgramFile};
 
 use crate::commands::{Open, PIECES, Stop, Texts, helped_page, is_object, read_both};
 use crate::decide::{race_page, read_whole};
@@ -62,7 +62,7 @@ pub fn decided_first<'a, R: Threads + Wait + Sync, F: FileSet>(
         IsDecidedFirst (F.held files.old program.entry.now) options.budget form page.text.items page.status) }
     ensures same { F.held files.new ≡ F.held files.old }
     ensures same_reads { F.reads files.new ≡ F.reads files.old }
-    ensures stop { IfErr result (StopsBy (IsProgram (F.reads files.old) program.entry.now)
+    ensures stop { IfErr result (StopsBy (IsProgramFile (F.reads files.old) program.entry.now)
         (F.held files.old) (F.held files.new)) }
 {
     let text = read_whole(alloc, program, files)?;
@@ -213,7 +213,7 @@ fn found_page<R: Threads + Wait + Sync>(
     evidence: &Text,
     form: Form,
 ) -> Result<Page, AllocError>
-    ensures { IfOk result (λ page. IsFound form program.now evidence.now page.text.items page.status) }
+    ensures { IfOk result (λ page. IsFoundPage form program.now evidence.now page.text.items page.status) }
 {
     let evidence = evidence.joined(alloc)?;
     match explain_evidence(rt, alloc, program, &evidence, PIECES, &Open, form) {

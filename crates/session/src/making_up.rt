@@ -2,7 +2,7 @@
 ghost use Rattle.std.specs.Prelude.{◌≡◌, ℕ, ◌<◌, [], Some, IfOk, OnOk, length, slice_get};
 ghost use Rattle.callorder.specs.Programs.{MpiProgram};
 ghost use Rattle.phases.specs.Rests.{IsRest, behind};
-ghost use Rattle.session.specs.Phasing.{AreDealt, ArePrograms, IsDealt, MakeUp};
+ghost use Rattle.session.specs.Phasing.{AreDealtInOrder, ArePrograms, IsDealt, MakeUpProgram};
 
 use callorder::LongProgram;
 use cutting::Phases;
@@ -52,7 +52,7 @@ fn deal_all(
     programs: &[LongProgram],
     order: &[usize],
 ) -> Result<(), AllocError>
-    ensures { OnOk result ((left : MpiProgram) × AreDealt programs.now program.now order.now left × (left.calls ≡ [])) }
+    ensures { OnOk result ((left : MpiProgram) × AreDealtInOrder programs.now program.now order.now left × (left.calls ≡ [])) }
 {
     let mut next = first_places(alloc, program)?;
     for number in order {
@@ -69,7 +69,7 @@ fn deal_all(
 /// cut, so it is tested before anything is written; what is cut wrongly, which doesn't come, is
 /// told as want of memory. The time is linear in the calls.
 pub fn make_up(alloc: Global, program: &LongProgram, phases: &Phases) -> Result<(), AllocError>
-    ensures { OnOk result (MakeUp program.now phases.now) }
+    ensures { OnOk result (MakeUpProgram program.now phases.now) }
 {
     let programs = programs_of(alloc, &phases.texts)?;
     deal_all(alloc, program, &programs, &phases.order)?;

@@ -4,7 +4,7 @@ ghost use Rattle.command_line.specs.Requests.{path_of};
 ghost use Rattle.places.specs.Maps.{AreFrom};
 ghost use Rattle.places.specs.Woven.{HasPlaces};
 ghost use Rattle.session.specs.Explaining.{IsExplainFile, IsExplainPage};
-ghost use Rattle.session.specs.Mapping.{IsMapRefused, IsMapped, IsMappedFile, IsPlaced, IsPlacedFile, map_words};
+ghost use Rattle.session.specs.Mapping.{IsMapRefused, IsMapped, IsMappedFile, IsPlacedPage, IsPlacedFile, map_words};
 ghost use Rattle.session.specs.parts.Pages.{StopsBy};
 
 use crate::commands::{Stop, is_object};
@@ -54,7 +54,7 @@ fn placed_page<'a, R: Threads + Wait + Sync, F: FileSet>(
     files: &mut F,
 ) -> Result<Page, Stop<'a>>
     ensures page { IfOk result (λ page.
-        IsPlaced (F.held files.old asked.entry.program.now) (F.held files.old map.entry.now) asked.entry.form
+        IsPlacedPage (F.held files.old asked.entry.program.now) (F.held files.old map.entry.now) asked.entry.form
         (IsExplainPage (F.held files.old) asked.entry.program.now (path_of asked.entry.evidence)
         asked.entry.options.budget asked.entry.form)
         page.text.items page.status) }

@@ -1,6 +1,6 @@
 //! How a race is told: by the lines and the ranks of its calls.
 ghost use Rattle.std.specs.Prelude.{◌≡◌, IfOk, false, slice_index, string_bytes, true};
-ghost use Rattle.session.specs.Racing.{call_object, call_words, race_line, race_members, race_object, race_sentence, race_text};
+ghost use Rattle.session.specs.Racing.{call_object, caller_words, race_line, race_members, race_object, race_sentence, race_text};
 
 use crate::page::object_with;
 use crate::status::UNKNOWN;
@@ -16,7 +16,7 @@ fn line_of(lines: &[usize], place: usize) -> usize
 
 /// A call by its line and its rank.
 pub fn call_words(alloc: Global, lines: &[usize], call: Caller) -> Result<String, AllocError>
-    ensures { IfOk result (λ words. string_bytes words ≡ call_words lines.now call) }
+    ensures { IfOk result (λ words. string_bytes words ≡ caller_words lines.now call) }
 {
     let mut words = String::from_str(alloc, "line ")?;
     words.push_str(&line_of(lines, call.place).to_string(alloc)?)?;

@@ -3,7 +3,7 @@
 ghost use Rattle.std.specs.Prelude.{◌≡◌, ◌∷◌, ◌++◌, [], IfErr, IfOk, List, OnOk, codes, map, ℕ};
 ghost use Rattle.command_line.specs.Requests.{path_of};
 ghost use Rattle.session.specs.parts.Pages.{StopsBy};
-ghost use Rattle.session.specs.Pages.{ChangesAtMost, IsProgram, IsWritten};
+ghost use Rattle.session.specs.Pages.{ChangesAtMost, IsProgramFile, IsWritten};
 ghost use Rattle.junit.specs.Report.{Case, IsOf, report_text};
 ghost use Rattle.session.specs.Sweeping.{graver};
 ghost use Rattle.session.specs.Several.{IsDecidedEach, IsDecidedIn, IsExplainedEach, IsFileOfEach, file_row, outcome_of};
@@ -164,7 +164,7 @@ fn decided_in<'a, F: FileSet>(
     ensures page { IfOk result (λ page. IsDecidedIn (F.held files.old) json path.entry.now page.text.items page.status) }
     ensures same { F.held files.new ≡ F.held files.old }
     ensures same_reads { F.reads files.new ≡ F.reads files.old }
-    ensures stop { IfErr result (StopsBy (IsProgram (F.reads files.old) path.entry.now)
+    ensures stop { IfErr result (StopsBy (IsProgramFile (F.reads files.old) path.entry.now)
         (F.held files.old) (F.held files.new)) }
 {
     let text = read_whole(alloc, path, files)?;

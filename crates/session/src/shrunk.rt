@@ -3,7 +3,7 @@ ghost use Rattle.std.specs.Prelude.{◌≡◌, ◌++◌, IfErr, IfOk, OnOk, code
 ghost use Rattle.command_line.specs.Requests.{path_of};
 ghost use Rattle.session.specs.parts.Pages.{StopsBy};
 ghost use Rattle.session.specs.Pages.{ChangesAtMost, IsWritten};
-ghost use Rattle.session.specs.Unrolling.{ChangesAtMostTwo, IsFileOf, IsNamed};
+ghost use Rattle.session.specs.Unrolling.{ChangesAtMostTwo, IsFileOf, IsNamedPath};
 ghost use Rattle.shrinking.specs.Left.{AreLeft};
 ghost use Rattle.shrinking.specs.Mapping.{map_text};
 ghost use Rattle.shrinking.specs.Told.{left_text};
@@ -102,7 +102,7 @@ fn smaller_page<'a, F: FileSet>(
         (path_of asked.entry.out) (path_of asked.entry.map) shrunk.text.items
         (map_text asked.entry.program.now shrunk.text.items shrunk.lines.items)) }
     ensures others { ChangesAtMostTwo (path_of asked.entry.out) (path_of asked.entry.map) (F.held files.old) (F.held files.new) }
-    ensures stop { IfErr result (StopsBy (IsNamed (path_of asked.entry.out) (path_of asked.entry.map))
+    ensures stop { IfErr result (StopsBy (IsNamedPath (path_of asked.entry.out) (path_of asked.entry.map))
         (F.held files.old) (F.held files.new)) }
 {
     let places = left_map(alloc, asked.program, &shrunk.text, &shrunk.lines)?;

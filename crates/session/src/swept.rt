@@ -5,8 +5,8 @@ ghost use Rattle.command_line.specs.Requests.{path_of};
 ghost use Rattle.places.specs.Woven.{HasPlaces};
 ghost use Rattle.session.specs.Explaining.{is_object};
 ghost use Rattle.session.specs.parts.Pages.{StopsBy};
-ghost use Rattle.session.specs.Pages.{IsProgram};
-ghost use Rattle.session.specs.Sweeping.{IsDecidedFor, IsDecidedUnrolled, IsExplainedFor, IsExplainedUnrolled, IsPageFor, IsRanked, IsTable, IsUnranked, beside_ranks, form_of_answer, graver, gravity, no_ranks, refused_line, row_text};
+ghost use Rattle.session.specs.Pages.{IsProgramFile};
+ghost use Rattle.session.specs.Sweeping.{IsDecidedFor, IsDecidedUnrolled, IsExplainedFor, IsExplainedUnrolled, IsPageFor, IsRanked, IsPageTable, IsUnranked, beside_ranks, form_of_answer, graver, gravity, no_ranks, refused_line, row_text};
 
 use crate::commands::{Stop, is_object};
 use crate::decide::{decision_line, read_whole};
@@ -208,7 +208,7 @@ fn table(
 ) -> Result<Page, AllocError>
     requires { wanted.first ≤ wanted.last }
     ensures { IfOk result (λ page.
-        IsTable (IsPageFor path.now source.now (map (λ s. s.now) settings.now) barriers json (IsDecidedFor json)) json wanted.first wanted.last page.text.items page.status) }
+        IsPageTable (IsPageFor path.now source.now (map (λ s. s.now) settings.now) barriers json (IsDecidedFor json)) json wanted.first wanted.last page.text.items page.status) }
 {
     let mut text = Vec::new(alloc);
     let mut status = NO_DEADLOCK;
@@ -238,7 +238,7 @@ pub fn decide_unrolled_page<'a, F: FileSet>(
         IsDecidedUnrolled (F.held files.old asked.now.program.now) asked.now.program.now (map (λ s. s.now) asked.now.settings.items)
         barriers asked.now.json wanted.first wanted.last page.text.items page.status) }
     ensures same { F.held files.new ≡ F.held files.old }
-    ensures stop { IfErr result (StopsBy (IsProgram (F.reads files.old) asked.now.program.now)
+    ensures stop { IfErr result (StopsBy (IsProgramFile (F.reads files.old) asked.now.program.now)
         (F.held files.old) (F.held files.new)) }
 {
     let source = read_whole(alloc, asked.program, files)?;
@@ -313,7 +313,7 @@ pub fn explain_unrolled_page<'a, R: Threads + Wait + Sync, F: FileSet>(
         IsExplainedUnrolled (F.held files.old asked.now.program.now) asked.now.program.now (map (λ s. s.now) asked.now.settings.items)
         barriers asked.now.options.budget asked.now.form ranks page.text.items page.status) }
     ensures same { F.held files.new ≡ F.held files.old }
-    ensures stop { IfErr result (StopsBy (IsProgram (F.reads files.old) asked.now.program.now)
+    ensures stop { IfErr result (StopsBy (IsProgramFile (F.reads files.old) asked.now.program.now)
         (F.held files.old) (F.held files.new)) }
 {
     let source = read_whole(alloc, asked.program, files)?;

@@ -3,7 +3,7 @@ ghost use Rattle.std.specs.Prelude.{◌≡◌, IfErr, IfOk, List, OnOk, is_some,
 ghost use Rattle.command_line.specs.Requests.{path_of};
 ghost use Rattle.session.specs.parts.Pages.{StopsBy};
 ghost use Rattle.session.specs.Pages.{ChangesAtMost, IsWritten};
-ghost use Rattle.session.specs.Unrolling.{AreWritten, ChangesAtMostTwo, IsFileOf, IsNamed, IsProgramPage, IsUnrollFile, IsUnrolledPage, barriers_in, refused_text};
+ghost use Rattle.session.specs.Unrolling.{AreWritten, ChangesAtMostTwo, IsFileOf, IsNamedPath, IsProgramPage, IsUnrollFile, IsUnrolledPage, barriers_in, refused_text};
 ghost use Rattle.spmd_program.specs.Unrolling.{IsMapWanted};
 
 use crate::commands::{Stop, write};
@@ -79,7 +79,7 @@ fn made_page<'a, F: FileSet>(
     ensures written { OnOk result (AreWritten F.tells_written (F.held files.old) (F.held files.new) (path_of out.entry) (path_of map.entry)
         made.program.items (option_map (λ m. m.items) made.map)) }
     ensures others { ChangesAtMostTwo (path_of out.entry) (path_of map.entry) (F.held files.old) (F.held files.new) }
-    ensures stop { IfErr result (StopsBy (IsNamed (path_of out.entry) (path_of map.entry))
+    ensures stop { IfErr result (StopsBy (IsNamedPath (path_of out.entry) (path_of map.entry))
         (F.held files.old) (F.held files.new)) }
 {
     let Unrolling {

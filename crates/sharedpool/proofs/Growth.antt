@@ -22,30 +22,30 @@ use Rattle.pool.specs.declared.entry.FoundFault.{FoundFault}
 use Rattle.pool.specs.declared.entry.FoundFault.TheVariants.{Memory, NotStuck}
 use Rattle.pool.specs.Growth.{LosesNothing}
 use Rattle.pool.specs.Replies.{resolved_lines, FailsAt}
-use Rattle.pool.specs.States.{PoolState, PoolWithHistory, IsSound, IsReply, IsRun, IsPublished, IsFound, after, after_operation, after_all}
+use Rattle.pool.specs.States.{PoolState, PoolWithHistory, IsSoundPool, IsReply, AreLegalReplies, IsPublished, IsFoundReply, after_item, after_operation, after_items}
 use Rattle.pool.proofs.Growth.{grows, grows_once, same_program, same_formula, lose_nothing}
 use Rattle.pool.proofs.Histories.{stay_sound}
 use Rattle.sharedpool.specs.Laws.{NothingSeenIsLost}
 use Rattle.sharedpool.specs.Views.{items_of}
 use Rattle.sharedpool.specs.parts.Seats.{Token, IsSeat, IsLocked, AreNoted}
-use Rattle.sharedpool.specs.Seats.{Chair, HoldsAt, AllHeld, HoldsOver, IsRefusedOver}
+use Rattle.sharedpool.specs.Seats.{Chair, HoldsLinesOfCall, AllHeld, HoldsOver, IsRefusedOver}
 use Rattle.sharedpool.proofs.Legal.{chair, holds_over}
 
-held_now : (h : PoolState) (operation : Operation) (lines more log : List ProofLine) (steps : List Step) → IsReply h operation lines steps → log ≡ (after_operation h operation lines steps).log ++ more → HoldsAt h.formula log operation lines
+held_now : (h : PoolState) (operation : Operation) (lines more log : List ProofLine) (steps : List Step) → IsReply h operation lines steps → log ≡ (after_operation h operation lines steps).log ++ more → HoldsLinesOfCall h.formula log operation lines
 held_now h (Publish count (Ok base)) lines more log steps reply is = (h.log, more, is ∙ append_assoc h.log lines more, reply.1)
 held_now h (Fetch from (Ok count)) lines more log steps reply is = (more, ap (drop from) is ∙ drop-append-le from h.log more reply.0.0 ∙ ap (λ l. l ++ more) (sym reply.0.1))
 held_now h operation lines more log steps reply is = tt
 
-all_held : (h : PoolState) (items : List LoggedCall) → IsRun h items → AllHeld h.formula (after_all h items).log items
+all_held : (h : PoolState) (items : List LoggedCall) → AreLegalReplies h items → AllHeld h.formula (after_items h items).log items
 all_held h [] run = tt
 all_held h (item ∷ items) run =
-    let rest = grows (after h item) items in
+    let rest = grows (after_item h item) items in
     let once = grows_once h item.entry.operation item.lines item.steps in (
-      held_now h item.entry.operation item.lines rest.2 (after_all (after h item) items).log item.steps run.0 rest.3,
-      subst (λ formula. AllHeld formula (after_all (after h item) items).log items) once.1 (all_held (after h item) items run.1),
+      held_now h item.entry.operation item.lines rest.2 (after_items (after_item h item) items).log item.steps run.0 rest.3,
+      subst (λ formula. AllHeld formula (after_items (after_item h item) items).log items) once.1 (all_held (after_item h item) items run.1),
     )
 
-held_if : (b : Bool) (formula : Conjunction) (log : List ProofLine) (item : LoggedCall) (items : List LoggedCall) → HoldsAt formula log item.entry.operation item.lines → AllHeld formula log items → AllHeld formula log (if b then item ∷ items else items)
+held_if : (b : Bool) (formula : Conjunction) (log : List ProofLine) (item : LoggedCall) (items : List LoggedCall) → HoldsLinesOfCall formula log item.entry.operation item.lines → AllHeld formula log items → AllHeld formula log (if b then item ∷ items else items)
 held_if true formula log item items one rest = (one, rest)
 held_if false formula log item items one rest = rest
 
@@ -54,10 +54,10 @@ mine_held worker formula log [] held = tt
 mine_held worker formula log (item ∷ items) held = held_if (item.entry.worker == worker) formula log item (items_of worker items) held.0 (mine_held worker formula log items held.1)
 
 -- a refused batch, over a derivation that holds the seat's lines
-pub refused_over : (opening : PoolState) (seat : Chair) (batch : List BatchLine) (place : ℕ) → IsSound opening → HoldsOver opening seat (λ h. IsPublished h batch (Err (NotDerived place))) → IsRefusedOver opening.formula seat.mine batch place
+pub refused_over : (opening : PoolState) (seat : Chair) (batch : List BatchLine) (place : ℕ) → IsSoundPool opening → HoldsOver opening seat (λ h. IsPublished h batch (Err (NotDerived place))) → IsRefusedOver opening.formula seat.mine batch place
 refused_over opening seat batch place sound over =
     let items : List LoggedCall = over.0 in
-    let h : PoolState = after_all opening items in
+    let h : PoolState = after_items opening items in
     let same : h.formula ≡ opening.formula = same_formula opening items in
     let derived = (stay_sound opening items sound over.1).derived in (
       h.log,
@@ -67,12 +67,12 @@ refused_over opening seat batch place sound over =
     )
 
 -- the same at the call that was refused
-pub refused_call : (table : TableId) (opening : PoolState) (pool : PoolWithHistory) (workers worker : ℕ) (keeper later seat after : Token) (item : LoggedCall) (batch : List BatchLine) (result : Result ℕ PublishFault)
-    → IsLocked table opening pool workers keeper → IsSeat table worker seat → AreNoted keeper later seat after item → IsPublished pool.held batch result
+pub refused_call : (table : TableId) (opening : PoolState) (pool : PoolWithHistory) (workers worker : ℕ) (keeper later seat after_item : Token) (item : LoggedCall) (batch : List BatchLine) (result : Result ℕ PublishFault)
+    → IsLocked table opening pool workers keeper → IsSeat table worker seat → AreNoted keeper later seat after_item item → IsPublished pool.held batch result
     → (place : ℕ) → result ≡ Err (NotDerived place) → IsRefusedOver opening.formula (cell_view seat).mine batch place
-refused_call table opening pool workers worker keeper later seat after item batch result locked sits noted_as reply place is =
+refused_call table opening pool workers worker keeper later seat after_item item batch result locked sits noted_as reply place is =
     refused_over opening (chair worker (cell_view seat).mine) batch place locked.sound
-    (holds_over table opening pool workers worker keeper later seat after item (λ h. IsPublished h batch (Err (NotDerived place))) locked sits noted_as (subst (IsPublished pool.held batch) is reply))
+    (holds_over table opening pool workers worker keeper later seat after_item item (λ h. IsPublished h batch (Err (NotDerived place))) locked sits noted_as (subst (IsPublished pool.held batch) is reply))
 
 -- ---- what a seat is told
 
@@ -135,7 +135,7 @@ IsAnswered (Err Memory) = ⊥
 IsAnswered (Err NotStuck) = Unit {0}
 
 abbrev FoundOver : PoolState → Chair → List Step → Result (Unit {0}) FoundFault → Type 0
-FoundOver opening seat steps result = (result ≡ Err Memory → ⊥) → HoldsOver opening seat (λ h. IsFound h steps result)
+FoundOver opening seat steps result = (result ≡ Err Memory → ⊥) → HoldsOver opening seat (λ h. IsFoundReply h steps result)
 
 pub found_stuck : (opening : PoolState) (seat : Chair) (steps : List Step) (result : Result (Unit {0}) FoundFault) → FoundOver opening seat steps result → OnOk result (IsStuckRun opening.program steps)
 found_stuck opening seat steps (Ok u) over =

@@ -8,32 +8,32 @@ use Rattle.crossbeam_utils.specs.Seq.{cell_view}
 use Rattle.pool.specs.declared.entry.Entry.{Entry}
 use Rattle.pool.specs.declared.entry.LoggedCall.{LoggedCall}
 use Rattle.pool.specs.Calls.{after_call}
-use Rattle.pool.specs.States.{PoolState, PoolWithHistory, after, after_all, noted, with_places, IsStep, IsRun, IsLegal}
+use Rattle.pool.specs.States.{PoolState, PoolWithHistory, after_item, after_items, noted, with_places, IsStep, AreLegalReplies, IsLegal}
 use Rattle.sharedpool.specs.declared.room.View.{View}
 use Rattle.sharedpool.specs.parts.Leaves.{leavers}
 use Rattle.sharedpool.specs.parts.Views.{taker, sitting}
 use Rattle.sharedpool.specs.Views.{knower, items_of}
 use Rattle.sharedpool.specs.parts.Seats.{Token, Shared, IsSeat, IsLocked, AreReady, AreMatched, AreNoted}
-use Rattle.sharedpool.specs.Seats.{Chair, HoldsOver, told}
+use Rattle.sharedpool.specs.Seats.{Chair, HoldsOver, told_call}
 use Rattle.sharedpool.proofs.Places.{leavers_more}
 use Rattle.pool.proofs.Calls.{step_noted}
 
 -- ---- runs
 
-after_all_more : (h : PoolState) (items : List LoggedCall) (item : LoggedCall) → after_all h (items ++ item ∷ []) ≡ after (after_all h items) item
+after_all_more : (h : PoolState) (items : List LoggedCall) (item : LoggedCall) → after_items h (items ++ item ∷ []) ≡ after_item (after_items h items) item
 after_all_more h [] item = refl
-after_all_more h (x ∷ items) item = after_all_more (after h x) items item
+after_all_more h (x ∷ items) item = after_all_more (after_item h x) items item
 
-run_more : (h : PoolState) (items : List LoggedCall) (item : LoggedCall) → IsRun h items → IsStep (after_all h items) item → IsRun h (items ++ item ∷ [])
+run_more : (h : PoolState) (items : List LoggedCall) (item : LoggedCall) → AreLegalReplies h items → IsStep (after_items h items) item → AreLegalReplies h (items ++ item ∷ [])
 run_more h [] item run step = (step, tt)
-run_more h (x ∷ items) item run step = (run.0, run_more (after h x) items item run.1 step)
+run_more h (x ∷ items) item run step = (run.0, run_more (after_item h x) items item run.1 step)
 
 legal_more : (opening : PoolState) (items : List LoggedCall) (item : LoggedCall) (k : PoolWithHistory) → IsLegal opening items k → IsStep k.held item → IsLegal opening (items ++ item ∷ []) (noted k item)
 legal_more opening items item k legal step =
     record {
       entries = ap (λ l. l ++ item.entry ∷ []) legal.entries ∙ sym (map-append (λ (i : LoggedCall). i.entry) items (item ∷ []));
       run = run_more opening items item legal.run (subst (λ h. IsStep h item) legal.ends step);
-      ends = ap (λ h. after h item) legal.ends ∙ sym (after_all_more opening items item);
+      ends = ap (λ h. after_item h item) legal.ends ∙ sym (after_all_more opening items item);
     }
 
 -- how many places are kept is all the same to it
@@ -62,10 +62,10 @@ pub sits_as : (table : TableId) (worker : ℕ) (seat : Token) → IsSeat table w
 sits_as table worker seat sits = ap (λ (v : View). v.worker) sits.knows
 
 -- the lock's value after one call that is in the history, and after which so many places are kept
-pub locked_with : (table : TableId) (opening : PoolState) (old new : PoolWithHistory) (workers : ℕ) (keeper later seat after : Token) (item : LoggedCall) (places : ℕ)
-    → IsLocked table opening old workers keeper → AreNoted keeper later seat after item → new ≡ noted (with_places old places) item → IsStep old.held item
+pub locked_with : (table : TableId) (opening : PoolState) (old new : PoolWithHistory) (workers : ℕ) (keeper later seat after_item : Token) (item : LoggedCall) (places : ℕ)
+    → IsLocked table opening old workers keeper → AreNoted keeper later seat after_item item → new ≡ noted (with_places old places) item → IsStep old.held item
     → workers ≤ places + leavers workers ((cell_view keeper).all ++ item ∷ []) → IsLocked table opening new workers later
-locked_with table opening old new workers keeper later seat after item places was noted_as grew step kept =
+locked_with table opening old new workers keeper later seat after_item item places was noted_as grew step kept =
     let items : List LoggedCall = (cell_view keeper).all in
     let all : (cell_view later).all ≡ items ++ item ∷ [] = ap (λ (v : View). v.all) noted_as.all in
     let before : PoolWithHistory = with_places old places in
@@ -83,16 +83,16 @@ locked_with table opening old new workers keeper later seat after item places wa
     }
 
 -- the same of a call that takes no place, and isn't answered with want of memory
-pub locked_more : (table : TableId) (opening : PoolState) (old new : PoolWithHistory) (workers : ℕ) (keeper later seat after : Token) (item : LoggedCall)
-    → IsLocked table opening old workers keeper → AreNoted keeper later seat after item → new ≡ after_call old item → IsStep old.held item → IsLocked table opening new workers later
-locked_more table opening old new workers keeper later seat after item was noted_as grew step =
-    locked_with table opening old new workers keeper later seat after item old.places was noted_as (grew ∙ step_noted old item step) step
+pub locked_more : (table : TableId) (opening : PoolState) (old new : PoolWithHistory) (workers : ℕ) (keeper later seat after_item : Token) (item : LoggedCall)
+    → IsLocked table opening old workers keeper → AreNoted keeper later seat after_item item → new ≡ after_call old item → IsStep old.held item → IsLocked table opening new workers later
+locked_more table opening old new workers keeper later seat after_item item was noted_as grew step =
+    locked_with table opening old new workers keeper later seat after_item item old.places was noted_as (grew ∙ step_noted old item step) step
     (omega (arith, was.places, leavers_more workers (cell_view keeper).all item))
 
 -- the lock's value and a seat after their lists were compared
-pub locked_same : (table : TableId) (opening : PoolState) (pool : PoolWithHistory) (workers : ℕ) (keeper later seat after : Token)
-    → IsLocked table opening pool workers keeper → AreMatched keeper later seat after → IsLocked table opening pool workers later
-locked_same table opening pool workers keeper later seat after was matched =
+pub locked_same : (table : TableId) (opening : PoolState) (pool : PoolWithHistory) (workers : ℕ) (keeper later seat after_item : Token)
+    → IsLocked table opening pool workers keeper → AreMatched keeper later seat after_item → IsLocked table opening pool workers later
+locked_same table opening pool workers keeper later seat after_item was matched =
     let items : List LoggedCall = (cell_view keeper).all in
     let all : (cell_view later).all ≡ items = ap (λ (v : View). v.all) matched.all in
     record {
@@ -107,8 +107,8 @@ locked_same table opening pool workers keeper later seat after was matched =
       places = subst (λ (l : List LoggedCall). workers ≤ pool.places + leavers workers l) (sym all) was.places;
     }
 
-pub seat_same : (table : TableId) (worker : ℕ) (keeper later seat after : Token) → IsSeat table worker seat → AreMatched keeper later seat after → IsSeat table worker after
-seat_same table worker keeper later seat after sits matched =
+pub seat_same : (table : TableId) (worker : ℕ) (keeper later seat after_item : Token) → IsSeat table worker seat → AreMatched keeper later seat after_item → IsSeat table worker after_item
+seat_same table worker keeper later seat after_item sits matched =
     record {
       of = matched.seat_of ∙ sits.of;
       free = matched.free;
@@ -129,15 +129,15 @@ below_as seat told_seat shared told_shared one two below =
     subst (λ (s : Chair). s.worker < shared.workers) (sym one) (subst (λ (l : Shared). told_seat.worker < l.workers) (sym two) below)
 
 -- the seat after it
-pub seat_told : (worker : ℕ) (keeper later seat after : Token) (item : LoggedCall) → AreNoted keeper later seat after item
-    → chair worker (cell_view after).mine ≡ told (chair worker (cell_view seat).mine) item
-seat_told worker keeper later seat after item noted_as = ap (λ (v : View). chair worker v.mine) noted_as.told
+pub seat_told : (worker : ℕ) (keeper later seat after_item : Token) (item : LoggedCall) → AreNoted keeper later seat after_item item
+    → chair worker (cell_view after_item).mine ≡ told_call (chair worker (cell_view seat).mine) item
+seat_told worker keeper later seat after_item item noted_as = ap (λ (v : View). chair worker v.mine) noted_as.told
 
 -- what holds of the pool before the call holds over a run in which the seat's list is its worker's
 -- items
-pub holds_over : (table : TableId) (opening : PoolState) (pool : PoolWithHistory) (workers worker : ℕ) (keeper later seat after : Token) (item : LoggedCall) (P : PoolState → Type 0)
-    → IsLocked table opening pool workers keeper → IsSeat table worker seat → AreNoted keeper later seat after item → P pool.held → HoldsOver opening (chair worker (cell_view seat).mine) P
-holds_over table opening pool workers worker keeper later seat after item P locked sits noted_as holds = (
+pub holds_over : (table : TableId) (opening : PoolState) (pool : PoolWithHistory) (workers worker : ℕ) (keeper later seat after_item : Token) (item : LoggedCall) (P : PoolState → Type 0)
+    → IsLocked table opening pool workers keeper → IsSeat table worker seat → AreNoted keeper later seat after_item item → P pool.held → HoldsOver opening (chair worker (cell_view seat).mine) P
+holds_over table opening pool workers worker keeper later seat after_item item P locked sits noted_as holds = (
   (cell_view keeper).all,
   locked.legal.run,
   noted_as.mine ∙ ap (λ n. items_of n (cell_view keeper).all) (sits_as table worker seat sits),

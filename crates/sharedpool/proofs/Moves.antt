@@ -7,7 +7,7 @@ use Rattle.crossbeam_utils.specs.Register.{Turns, Forks, Merges}
 use Rattle.atomic_table.proofs.Lists.{at_set, set_again}
 use Rattle.pool.specs.declared.entry.LoggedCall.{LoggedCall}
 use Rattle.sharedpool.specs.declared.room.View.{View}
-use Rattle.sharedpool.specs.parts.Views.{taker, one_more, next_seat, with_seat, keeper_of, seat_of, with_item, Fits, Kept, Added, Looked, TakenBack}
+use Rattle.sharedpool.specs.parts.Views.{taker, one_more, next_seat, with_seat, keeper_of, seat_of, with_item, IsFittingView, Kept, Added, Looked, TakenBack}
 use Rattle.sharedpool.specs.Views.{items_of, AllBelow, IsNoneOf, AreDifferent, nobody, knower}
 
 off : {A : Type 0} → false ≡ true → A
@@ -71,7 +71,7 @@ all_snoc F views w old new j u e =
 
 -- moves
 
-fits_nobody : (keeper workers : ℕ) (all : List LoggedCall) (taken : List ℕ) (place : ℕ → ℕ) (by : ℕ) → Fits keeper workers all taken place by nobody
+fits_nobody : (keeper workers : ℕ) (all : List LoggedCall) (taken : List ℕ) (place : ℕ → ℕ) (by : ℕ) → IsFittingView keeper workers all taken place by nobody
 fits_nobody keeper workers all taken place by = record { keeps = λ e. off e; sits = λ e. off e }
 
 pub begins : (words : List ℕ) → Kept words (knower 0 [] ∷ [])
@@ -87,8 +87,8 @@ begins words =
       each = one;
     }
   where
-    one : (by : ℕ) (v : View) → get_elem? (knower 0 [] ∷ []) by ≡ some v → Fits 0 0 [] [] (λ _. 0) by v
-    one zero v e = subst (Fits 0 0 [] [] (λ _. 0) 0) (some-injective _ _ e) (record { keeps = λ _. (refl, refl, refl, refl); sits = λ s. off s })
+    one : (by : ℕ) (v : View) → get_elem? (knower 0 [] ∷ []) by ≡ some v → IsFittingView 0 0 [] [] (λ _. 0) by v
+    one zero v e = subst (IsFittingView 0 0 [] [] (λ _. 0) 0) (some-injective _ _ e) (record { keeps = λ _. (refl, refl, refl, refl); sits = λ s. off s })
     one (suc by) v e = absurd (some-ne-none v (sym e))
 
 -- who sits where, once one worker sits in another pass
@@ -111,7 +111,7 @@ blanks by v words views h at =
       place = h.place;
       below = h.below;
       different = h.different;
-      each = all_snoc (Fits h.keeper h.workers h.all h.taken h.place) (set views by v) nobody
+      each = all_snoc (IsFittingView h.keeper h.workers h.all h.taken h.place) (set views by v) nobody
           (λ j u e. h.each j u (subst (λ l. get_elem? l j ≡ some u) (set_again views by v at) e))
           (fits_nobody h.keeper h.workers h.all h.taken h.place (length (set views by v)));
     }
@@ -122,7 +122,7 @@ joins by v other u keeps sits words views h at apart there =
     let was : get_elem? views other ≡ some u = ⊎_elim (λ (x : (other ≡ by) × (with_seat v u ≡ u)). absurd (apart x.0)) (λ (x : (other ≢ by) × (get_elem? views other ≡ some u)). x.1) (at_set views by other (with_seat v u) u there) in
     let theirs = (h.each other u was).sits sits in
     let place : ℕ → ℕ = moved u.worker by h.place in
-    let Now : ℕ → View → Type 0 = λ j x. j ≢ other → Fits h.keeper h.workers h.all h.taken place j x in
+    let Now : ℕ → View → Type 0 = λ j x. j ≢ other → IsFittingView h.keeper h.workers h.all h.taken place j x in
     record {
       keeper = h.keeper;
       workers = h.workers;
@@ -131,7 +131,7 @@ joins by v other u keeps sits words views h at apart there =
       place = place;
       below = h.below;
       different = h.different;
-      each = all_set (Fits h.keeper h.workers h.all h.taken place) (set views by (with_seat v u)) other nobody
+      each = all_set (IsFittingView h.keeper h.workers h.all h.taken place) (set views by (with_seat v u)) other nobody
           (fits_nobody h.keeper h.workers h.all h.taken place other)
           (λ j x away e. all_set Now views by (with_seat v u)
           (λ _. record { keeps = λ _. mine; sits = λ _. (sym (moved-here u.worker by h.place), theirs.1, theirs.2, theirs.3) })
@@ -156,7 +156,7 @@ adds by v item keeps sits is words views h at =
         place = h.place;
         below = below-push h.workers h.all item h.below (subst (λ n. n < h.workers) is s.1);
         different = h.different;
-        each = all_set (Fits h.keeper h.workers (h.all ++ item ∷ []) h.taken h.place) views by (with_item v item)
+        each = all_set (IsFittingView h.keeper h.workers (h.all ++ item ∷ []) h.taken h.place) views by (with_item v item)
             (record {
               keeps = λ _. (k.0, k.1, ap (λ l. l ++ item ∷ []) k.2, k.3);
               sits = λ _. (s.0, s.1, ap (λ l. l ++ item ∷ []) s.2 ∙ sym (items_of-mine v.worker h.all item (sym is)), s.3);
@@ -184,8 +184,8 @@ parts by v keeps sits words views h at =
       place = place;
       below = h.below;
       different = h.different;
-      each = all_snoc (Fits h.keeper h.workers h.all h.taken place) after (seat_of v)
-          (all_set (Fits h.keeper h.workers h.all h.taken place) views by (keeper_of v)
+      each = all_snoc (IsFittingView h.keeper h.workers h.all h.taken place) after (seat_of v)
+          (all_set (IsFittingView h.keeper h.workers h.all h.taken place) views by (keeper_of v)
           (record { keeps = λ _. k; sits = λ e. off e })
           (λ j u apart e. record {
             keeps = λ q. absurd (apart (((h.each j u e).keeps q).0 ∙ sym k.0));
@@ -208,8 +208,8 @@ seats by v keeps none words views h at =
       place = place;
       below = below-more h.workers h.all h.below;
       different = h.different;
-      each = all_snoc (Fits h.keeper (h.workers + 1) h.all h.taken place) after (next_seat v)
-          (all_set (Fits h.keeper (h.workers + 1) h.all h.taken place) views by (one_more v)
+      each = all_snoc (IsFittingView h.keeper (h.workers + 1) h.all h.taken place) after (next_seat v)
+          (all_set (IsFittingView h.keeper (h.workers + 1) h.all h.taken place) views by (one_more v)
           (record { keeps = λ _. (k.0, ap (λ n. n + 1) k.1, k.2, sym none ∙ k.3); sits = λ e. off e })
           (λ j u apart e. record {
             keeps = λ q. absurd (apart (((h.each j u e).keeps q).0 ∙ sym k.0));
@@ -235,7 +235,7 @@ looks by v keeps sits words views h at =
         place = h.place;
         below = h.below;
         different = h.different;
-        each = all_set (Fits h.keeper h.workers h.all h.taken h.place) views by v (h.each by v at) (λ j u apart e. h.each j u e);
+        each = all_set (IsFittingView h.keeper h.workers h.all h.taken h.place) views by v (h.each by v at) (λ j u apart e. h.each j u e);
       },
       (refl, s.2 ∙ ap (items_of v.worker) (sym k.2), omega (arith, s.1, k.1)),
     )
@@ -255,7 +255,7 @@ takes_back by v keeps sits words views h at =
         place = h.place;
         below = h.below;
         different = different;
-        each = all_set (Fits h.keeper h.workers h.all (v.worker ∷ h.taken) h.place) views by after
+        each = all_set (IsFittingView h.keeper h.workers h.all (v.worker ∷ h.taken) h.place) views by after
             (record { keeps = λ _. (k.0, k.1, k.2, ap (λ l. v.worker ∷ l) k.3); sits = λ e. off e })
             (λ j u apart e. record {
               keeps = λ q. absurd (apart (((h.each j u e).keeps q).0 ∙ sym k.0));

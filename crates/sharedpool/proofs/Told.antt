@@ -31,35 +31,35 @@ use Rattle.pool.proofs.Moves.{batches_move}
 use Rattle.sharedpool.specs.Views.{items_of}
 use Rattle.sharedpool.specs.parts.Seats.{Token, IsLocked}
 use Rattle.sharedpool.specs.Seats.{Chair, told_publish, told_fetch, told_close, told_split, told_found, told_leave}
-use Rattle.sharedpool.specs.Told.{IsTold, GoesOn, IsDerivedFrom}
+use Rattle.sharedpool.specs.Told.{IsViewTold, GoesOnByFetch, IsDerivedFrom}
 
 -- ---- a longer list
 
-pub told_more : (f : Conjunction) (mine more : List LoggedCall) (view : List ProofLine) → IsTold f mine view → IsTold f (mine ++ more) view
+pub told_more : (f : Conjunction) (mine more : List LoggedCall) (view : List ProofLine) → IsViewTold f mine view → IsViewTold f (mine ++ more) view
 told_more f mine more view told place line there =
     let t = told place line there in
     (t.0, t.1, slice_get-front mine more t.0 (slice_get_within mine t.0 t.1 t.2) ∙ t.2, t.3)
 
-pub told_published : (f : Conjunction) (seat : Chair) (batch : List BatchLine) (reply : Result ℕ PublishFault) (view : List ProofLine) → IsTold f seat.mine view → IsTold f (told_publish seat batch reply).mine view
+pub told_published : (f : Conjunction) (seat : Chair) (batch : List BatchLine) (reply : Result ℕ PublishFault) (view : List ProofLine) → IsViewTold f seat.mine view → IsViewTold f (told_publish seat batch reply).mine view
 told_published f seat batch (Err publish.Memory) view told = told
 told_published f seat batch reply view told = told_more f seat.mine _ view told
 
-pub told_closed : (f : Conjunction) (seat : Chair) (leaf number : ℕ) (reply : Result (Unit {0}) CloseFault) (view : List ProofLine) → IsTold f seat.mine view → IsTold f (told_close seat leaf number reply).mine view
+pub told_closed : (f : Conjunction) (seat : Chair) (leaf number : ℕ) (reply : Result (Unit {0}) CloseFault) (view : List ProofLine) → IsViewTold f seat.mine view → IsViewTold f (told_close seat leaf number reply).mine view
 told_closed f seat leaf number (Err close.Memory) view told = told
 told_closed f seat leaf number reply view told = told_more f seat.mine _ view told
 
-pub told_parted : (f : Conjunction) (seat : Chair) (leaf variable : ℕ) (reply : Result (ℕ × ℕ) SplitFault) (view : List ProofLine) → IsTold f seat.mine view → IsTold f (told_split seat leaf variable reply).mine view
+pub told_parted : (f : Conjunction) (seat : Chair) (leaf variable : ℕ) (reply : Result (ℕ × ℕ) SplitFault) (view : List ProofLine) → IsViewTold f seat.mine view → IsViewTold f (told_split seat leaf variable reply).mine view
 told_parted f seat leaf variable (Err split.Memory) view told = told
 told_parted f seat leaf variable reply view told = told_more f seat.mine _ view told
 
-pub told_stuck : (f : Conjunction) (seat : Chair) (steps : List Step) (reply : Result (Unit {0}) FoundFault) (view : List ProofLine) → IsTold f seat.mine view → IsTold f (told_found seat steps reply).mine view
+pub told_stuck : (f : Conjunction) (seat : Chair) (steps : List Step) (reply : Result (Unit {0}) FoundFault) (view : List ProofLine) → IsViewTold f seat.mine view → IsViewTold f (told_found seat steps reply).mine view
 told_stuck f seat steps (Err found.Memory) view told = told
 told_stuck f seat steps reply view told = told_more f seat.mine _ view told
 
 pub told_left : (f : Conjunction) (seat after : Chair) (why : Option Why) {E : Type 0} (reply : Result (Unit {0}) E) (view : List ProofLine) → OnOk reply (after ≡ told_leave seat why) → OnErr reply (after ≡ seat)
-    → IsTold f seat.mine view → IsTold f after.mine view
-told_left f seat after why (Ok _) view left same told = subst (λ (s : Chair). IsTold f s.mine view) (sym left) (told_more f seat.mine _ view told)
-told_left f seat after why (Err _) view left same told = subst (λ (s : Chair). IsTold f s.mine view) (sym same) told
+    → IsViewTold f seat.mine view → IsViewTold f after.mine view
+told_left f seat after why (Ok _) view left same told = subst (λ (s : Chair). IsViewTold f s.mine view) (sym left) (told_more f seat.mine _ view told)
+told_left f seat after why (Err _) view left same told = subst (λ (s : Chair). IsViewTold f s.mine view) (sym same) told
 
 -- ---- the log
 
@@ -76,7 +76,7 @@ item_of_all worker (x ∷ items) i item there = in_all (x.entry.worker == worker
 
 -- the log begins with what a seat was told
 pub log_begins : (table : TableId) (opening : PoolState) (pool : PoolWithHistory) (workers : ℕ) (keeper : Token) (worker : ℕ) (mine : List LoggedCall) (view : List ProofLine) → IsLocked table opening pool workers keeper
-    → mine ≡ items_of worker (cell_view keeper).all → IsTold opening.formula mine view → pool.held.log ≡ view ++ drop (length view) pool.held.log
+    → mine ≡ items_of worker (cell_view keeper).all → IsViewTold opening.formula mine view → pool.held.log ≡ view ++ drop (length view) pool.held.log
 log_begins table opening pool workers keeper worker mine view locked is told =
     begins_with view pool.held.log (λ place line there.
     let t = told place line there in
@@ -85,7 +85,7 @@ log_begins table opening pool workers keeper worker mine view locked is told =
 
 -- a batch that derives from what a seat was told derives from the log
 pub derived_behind : (table : TableId) (opening : PoolState) (pool : PoolWithHistory) (workers : ℕ) (keeper : Token) (worker : ℕ) (mine : List LoggedCall) (view : List ProofLine) (batch : List BatchLine) → IsLocked table opening pool workers keeper
-    → mine ≡ items_of worker (cell_view keeper).all → IsTold opening.formula mine view → IsDerivedFrom opening.formula view batch
+    → mine ≡ items_of worker (cell_view keeper).all → IsViewTold opening.formula mine view → IsDerivedFrom opening.formula view batch
     → DeriveAfter pool.held.formula pool.held.log (resolved_lines (next_number pool.held) batch)
 derived_behind table opening pool workers keeper worker mine view batch locked is told derived =
     let begins = log_begins table opening pool workers keeper worker mine view locked is told in
@@ -102,7 +102,7 @@ both_some A B (Some x) one two = (one, two)
 -- ---- a fetch
 
 -- a seat that was told what stands before a place, and by an answer what stands from there on
-told_on : (f : Conjunction) (mine : List LoggedCall) (worker from : ℕ) (lines view : List ProofLine) → IsTold f mine view → from ≤ length view → IsTold f (mine ++ fetch_item worker from (Ok lines) ∷ []) (take from view ++ lines)
+told_on : (f : Conjunction) (mine : List LoggedCall) (worker from : ℕ) (lines view : List ProofLine) → IsViewTold f mine view → from ≤ length view → IsViewTold f (mine ++ fetch_item worker from (Ok lines) ∷ []) (take from view ++ lines)
 told_on f mine worker from lines view told low place line there =
     let item : LoggedCall = fetch_item worker from (Ok lines) in
     let front : length (take from view) ≡ from = omega (arith, length-take from view, low) in
@@ -120,23 +120,23 @@ told_on f mine worker from lines view told low place line there =
     (length mine + 0, item, slice_get-back mine (item ∷ []) 0, record { first = from; begins = refl; past = past; there = found }))
     (cases_lt place from)
 
-told_still : (f : Conjunction) (seat : Chair) (from : ℕ) (reply : Result (List ProofLine) FetchFault) (view : List ProofLine) → IsTold f seat.mine view → IsTold f (told_fetch seat from reply).mine view
+told_still : (f : Conjunction) (seat : Chair) (from : ℕ) (reply : Result (List ProofLine) FetchFault) (view : List ProofLine) → IsViewTold f seat.mine view → IsViewTold f (told_fetch seat from reply).mine view
 told_still f seat from (Err fetch.Memory) view told = told
 told_still f seat from reply view told = told_more f seat.mine _ view told
 
 -- what a seat was told after a fetch
-pub told_fetched : (f : Conjunction) (seat : Chair) (from : ℕ) (reply : Result (List ProofLine) FetchFault) (view after : List ProofLine) → IsTold f seat.mine view → GoesOn view from reply after → IsTold f (told_fetch seat from reply).mine after
+pub told_fetched : (f : Conjunction) (seat : Chair) (from : ℕ) (reply : Result (List ProofLine) FetchFault) (view after : List ProofLine) → IsViewTold f seat.mine view → GoesOnByFetch view from reply after → IsViewTold f (told_fetch seat from reply).mine after
 told_fetched f seat from reply view after told goes =
     let mine : List LoggedCall = (told_fetch seat from reply).mine in
     ⊎_elim
-    (λ (same : after ≡ view). subst (IsTold f mine) (sym same) (told_still f seat from reply view told))
+    (λ (same : after ≡ view). subst (IsViewTold f mine) (sym same) (told_still f seat from reply view told))
     (λ (on : (lines : List ProofLine) × (reply ≡ Ok lines) × (from ≤ length view) × (after ≡ take from view ++ lines)).
-    subst (IsTold f mine) (sym on.3)
-    (subst (λ (r : Result (List ProofLine) FetchFault). IsTold f (told_fetch seat from r).mine (take from view ++ on.0)) (sym on.1) (told_on f seat.mine seat.worker from on.0 view told on.2)))
+    subst (IsViewTold f mine) (sym on.3)
+    (subst (λ (r : Result (List ProofLine) FetchFault). IsViewTold f (told_fetch seat from r).mine (take from view ++ on.0)) (sym on.1) (told_on f seat.mine seat.worker from on.0 view told on.2)))
     goes
 
 -- how a view goes on where memory may be wanting
 pub goes_on : {E : Type 0} (view after lines : List ProofLine) (from : ℕ) (reply : Result (List ProofLine) FetchFault) (result : Result (Unit {0}) E) → reply ≡ Ok lines → from ≤ length view
-    → OnOk result (after ≡ take from view ++ lines) → OnErr result (after ≡ view) → GoesOn view from reply after
+    → OnOk result (after ≡ take from view ++ lines) → OnErr result (after ≡ view) → GoesOnByFetch view from reply after
 goes_on view after lines from reply (Ok _) is low on same = inr (lines, is, low, on)
 goes_on view after lines from reply (Err _) is low on same = inl same

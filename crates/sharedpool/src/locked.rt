@@ -2,14 +2,14 @@
 
 ghost use Rattle.std.specs.Prelude.{◌≡◌, ◌==◌, ◌≤◌, ◌<◌, ◌++◌, ℕ, [], false, Err, IfSome, IsOk, OnOk, OnErr, length};
 ghost use Rattle.std.specs.List.{count_by};
-ghost use Rattle.pool.specs.States.{noted, with_places, leave_item, IsLegal, IsSound, IsPublished, IsFetched, IsClosed, IsSplit, IsFound};
+ghost use Rattle.pool.specs.States.{noted, with_places, leave_item, IsLegal, IsSoundPool, IsPublished, IsFetched, IsClosed, IsSplit, IsFoundReply};
 ghost use Rattle.pool.specs.Moves.{AreOfBatch};
 ghost use Rattle.crossbeam_utils.specs.Seq.{cell_view};
 ghost use Rattle.sharedpool.specs.parts.Leaves.{has_entry, places_after};
 ghost use Rattle.sharedpool.specs.Leaves.{has_left};
 ghost use Rattle.sharedpool.specs.Views.{knower, items_of};
 ghost use Rattle.sharedpool.specs.Seats.{HoldsOver, IsRefusedOver, told_publish, told_fetch, told_close, told_split, told_found, told_leave};
-ghost use Rattle.sharedpool.specs.Told.{IsTold, IsDerivedFrom};
+ghost use Rattle.sharedpool.specs.Told.{IsViewTold, IsDerivedFrom};
 
 use crate::note::{match_lists, note};
 use crate::room::{Cell, PoolName, StepsName, Token};
@@ -160,7 +160,7 @@ impl<B: PoolName> Locked<B> {
         batch: &Batch,
     ) -> Result<u32, PublishFault>
         requires room { cell.now.table.shared.table_id ≡ B.table }
-        requires told { IsTold B.opening.formula seat.old.mine view.now }
+        requires told { IsViewTold B.opening.formula seat.old.mine view.now }
         requires derived { IfSome derived (λ _. IsDerivedFrom B.opening.formula view.now batch.now.lines.items) }
         requires lines { IfSome derived (λ d. AreOfBatch batch.now.lines.items d) }
         ensures seat { seat.new ≡ told_publish seat.old batch.now.lines.items result }
@@ -267,7 +267,7 @@ impl<B: PoolName> Locked<B> {
     ) -> Result<(), FoundFault>
         requires { cell.now.table.shared.table_id ≡ B.table }
         ensures seat { seat.new ≡ told_found seat.old steps.items result }
-        ensures reply { (result ≡ Err FoundFault.Memory → ⊥) → HoldsOver B.opening seat.old (λ h. IsFound h steps.items result) }
+        ensures reply { (result ≡ Err FoundFault.Memory → ⊥) → HoldsOver B.opening seat.old (λ h. IsFoundReply h steps.items result) }
     {
         self.found_as::<Brand, R>(rt, alloc, cell, seat, steps)
     }
@@ -284,7 +284,7 @@ impl<B: PoolName> Locked<B> {
         requires cell { cell.now.table.shared.table_id ≡ B.table }
         requires steps { steps.items ≡ S.steps }
         ensures seat { seat.new ≡ told_found seat.old S.steps result }
-        ensures reply { (result ≡ Err FoundFault.Memory → ⊥) → HoldsOver B.opening seat.old (λ h. IsFound h S.steps result) }
+        ensures reply { (result ≡ Err FoundFault.Memory → ⊥) → HoldsOver B.opening seat.old (λ h. IsFoundReply h S.steps result) }
     {
         let worker = seat.worker;
         let reply = self.pool.found(alloc, worker, steps);

@@ -4,7 +4,7 @@ ghost use Rattle.std.specs.Prelude.{◌≡◌, ◌≤◌, ◌<◌, ◌+◌, ◌�
 ghost use Rattle.crossbeam_utils.specs.Seq.{cell_view};
 ghost use Rattle.pool.specs.Moves.{AreOfBatch};
 ghost use Rattle.sharedpool.specs.parts.Seats.{IsSeat};
-ghost use Rattle.sharedpool.specs.Told.{GoesOn, IsDerivedFrom};
+ghost use Rattle.sharedpool.specs.Told.{GoesOnByFetch, IsDerivedFrom};
 ghost use Rattle.sharedpool.specs.parts.Views.{taker};
 ghost use Rattle.sharedpool.specs.Views.{items_of, AllBelow, AreDifferent};
 
@@ -53,13 +53,13 @@ pub struct Seat<B: PoolName> {
 impl<B: PoolName> Model for Seat<B> {
     ghost use Rattle.std.specs.Prelude.{◌≡◌, ◌+◌, length};
     ghost use Rattle.sharedpool.specs.Seats.{Chair};
-    ghost use Rattle.sharedpool.specs.Told.{IsTold};
+    ghost use Rattle.sharedpool.specs.Told.{IsViewTold};
 
     ghost Value = { Chair };
 
     ghost view = { λ s. s.ticket };
 
-    ghost invariant = { λ s. IsTold B.opening.formula s.ticket.mine s.view × (length s.known ≡ B.opening.formula.variables + 1) };
+    ghost invariant = { λ s. IsViewTold B.opening.formula s.ticket.mine s.view × (length s.known ≡ B.opening.formula.variables + 1) };
 }
 
 /// The lines of a batch, if they derive from those that a seat was told. None where memory runs
@@ -87,7 +87,7 @@ pub(crate) fn derived_from(
 /// those that it told. Where memory is wanting they stay as they were: batches are checked under
 /// the lock then.
 pub(crate) fn follow(alloc: Global, view: &mut Log, from: usize, reply: &Result<Lines, FetchFault>)
-    ensures { GoesOn view.old from reply.now view.new }
+    ensures { GoesOnByFetch view.old from reply.now view.new }
 {
     let Ok(lines) = reply else {
         return;

@@ -5,10 +5,10 @@ ghost use Rattle.std.specs.List.{range_with_len};
 ghost use Rattle.std.specs.Arc.{arc_value};
 ghost use Rattle.crossbeam_utils.specs.Seq.{cell_view};
 ghost use Rattle.semantics.specs.Machine.{IsStuckRun};
-ghost use Rattle.pool.specs.States.{with_places, IsPublished, IsFetched, IsClosed, IsSplit, IsFound};
+ghost use Rattle.pool.specs.States.{with_places, IsPublished, IsFetched, IsClosed, IsSplit, IsFoundReply};
 ghost use Rattle.sharedpool.specs.Leaves.{has_left};
 ghost use Rattle.sharedpool.specs.Views.{knower, items_of, AllBelow, AreDifferent};
-ghost use Rattle.sharedpool.specs.Seats.{AreNumbered, workers_of, HoldsOver, IsFinished, IsRefusedOver, told_publish, told_fetch, told_close, told_split, told_found, told_leave};
+ghost use Rattle.sharedpool.specs.Seats.{AreNumbered, workers_of, HoldsOver, IsFinishedPool, IsRefusedOver, told_publish, told_fetch, told_close, told_split, told_found, told_leave};
 
 use crate::locked::Locked;
 use crate::passes::take_seat;
@@ -174,7 +174,7 @@ impl<B: PoolName> SharedPool<B> {
         seats: Vec<Seat<B>>,
     ) -> Result<(Pool, Vec<usize>), (FinishFault, SharedPool<B>, Vec<Seat<B>>)>
         ensures all { IfOk result (λ r. length seats.items ≡ B.workers) }
-        ensures finished { IfOk result (λ r. IsFinished B.opening seats.items r.0 r.1.items) }
+        ensures finished { IfOk result (λ r. IsFinishedPool B.opening seats.items r.0 r.1.items) }
         ensures program { IfOk result (λ r. r.0.held.program ≡ B.opening.program) }
         ensures formula { IfOk result (λ r. r.0.held.formula ≡ B.opening.formula) }
         ensures missing { IfErr result (λ r. (r.0 ≡ FinishFault.Missing) ↔ (length seats.items ≢ B.workers)) }
@@ -291,7 +291,7 @@ impl<B: PoolName> Share for SharedPool<B> {
         steps: Vec<Step>,
     ) -> Result<(), FoundFault>
         ensures seat { seat.new ≡ told_found seat.old steps.items result }
-        ensures reply { (result ≡ Err FoundFault.Memory → ⊥) → HoldsOver B.opening seat.old (λ h. IsFound h steps.items result) }
+        ensures reply { (result ≡ Err FoundFault.Memory → ⊥) → HoldsOver B.opening seat.old (λ h. IsFoundReply h steps.items result) }
         ensures stuck { OnOk result (IsStuckRun B.opening.program steps.items) }
         ensures not_stuck { result ≡ Err FoundFault.NotStuck → IsStuckRun B.opening.program steps.items → ⊥ }
     {

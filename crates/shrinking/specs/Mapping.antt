@@ -3,7 +3,7 @@
 use Rattle.std.specs.Prelude.{codes, ℕ, ◌+◌, ◌-◌, Bool, ◌||◌, not, nat_lt, List, [], ◌∷◌, ◌++◌, get_or, map, if◌then◌else◌}
 use Rattle.std.specs.Str.{bytes_eq}
 use Rattle.plaintext.specs.Plain.{numeral}
-use Rattle.places.specs.Maps.{heading}
+use Rattle.places.specs.Maps.{map_heading}
 use Rattle.shrinking.specs.Left.{lines_in, words_in}
 
 -- whether the first of the words is this one
@@ -29,8 +29,8 @@ entry path line rank number =
     codes "line " ++ (numeral line ++ (codes ": rank " ++ (numeral rank ++ (codes ", " ++ (path ++ (codes ":" ++ (numeral number ++ 10 ∷ [])))))))
 
 -- a line of these words that is a call's has one; so many ranks have their headings above
-abbrev pub entry_of : List ℕ → ℕ → ℕ → List (List ℕ) → ℕ → List ℕ
-entry_of path line ranks words number = if is_call words then entry path line (ranks - 1) number else []
+abbrev pub entry_if_call : List ℕ → ℕ → ℕ → List (List ℕ) → ℕ → List ℕ
+entry_if_call path line ranks words number = if is_call words then entry path line (ranks - 1) number else []
 
 -- the entries of these lines, the first of which has this number, and of the numbers of the lines
 -- that they are left of
@@ -38,9 +38,9 @@ abbrev pub entries : List ℕ → ℕ → ℕ → List (List ℕ) → List ℕ �
 entries path line ranks [] numbers = []
 entries path line ranks (words ∷ lines) [] = []
 entries path line ranks (words ∷ lines) (n ∷ ns) =
-    entry_of path line ranks (words_in words) n ++ entries path (line + 1) (ranks_after ranks (words_in words)) lines ns
+    entry_if_call path line ranks (words_in words) n ++ entries path (line + 1) (ranks_after ranks (words_in words)) lines ns
 
 -- the map of the smaller text, by the path of the given one
 abbrev pub map_text : List ℕ → List ℕ → List ℕ → List ℕ
 map_text path text numbers =
-    codes "map 1\n" ++ (heading text ++ 10 ∷ (entries (map shown_byte path) 1 0 (lines_in text) numbers ++ codes "end\n"))
+    codes "map 1\n" ++ (map_heading text ++ 10 ∷ (entries (map shown_byte path) 1 0 (lines_in text) numbers ++ codes "end\n"))

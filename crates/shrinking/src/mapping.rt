@@ -2,7 +2,7 @@
 
 ghost use Rattle.std.specs.Prelude.{◌≡◌, ◌<◌, ◌≤◌, ◌++◌, ◌+◌, ◌^◌, IfOk, OnOk, map};
 ghost use Rattle.shrinking.specs.Left.{words_in};
-ghost use Rattle.shrinking.specs.Mapping.{begins, entries, entry, entry_of, is_call, map_text, ranks_after, shown_byte};
+ghost use Rattle.shrinking.specs.Mapping.{begins, entries, entry, entry_if_call, is_call, map_text, ranks_after, shown_byte};
 
 use crate::lines::lines_of;
 use places::heading_of;
@@ -78,7 +78,7 @@ fn put_entry_of(
     words: &[&[u8]],
     number: usize,
 ) -> Result<(), AllocError>
-    ensures { OnOk result (out.new.items ≡ out.old.items ++ entry_of path.now line ranks (map (λ w. w.now) words.now) number) }
+    ensures { OnOk result (out.new.items ≡ out.old.items ++ entry_if_call path.now line ranks (map (λ w. w.now) words.now) number) }
 {
     if is_call(words) {
         return put_entry(out, path, line, ranks.saturating_sub(1), number);
@@ -110,7 +110,7 @@ fn put_line_of(
     number: usize,
 ) -> Result<u64, AllocError>
     requires { ranks + 1 < 2 ^ 64 }
-    ensures written { IfOk result (λ next. out.new.items ≡ out.old.items ++ entry_of path.now line ranks (words_in text.now) number) }
+    ensures written { IfOk result (λ next. out.new.items ≡ out.old.items ++ entry_if_call path.now line ranks (words_in text.now) number) }
     ensures ranks { IfOk result (λ next. next ≡ ranks_after ranks (words_in text.now)) }
     ensures few { IfOk result (λ next. next ≤ ranks + 1) }
 {

@@ -12,7 +12,7 @@ use Rattle.spmd_text.specs.declared.reading.Policy.{Policy}
 use Rattle.unroll.specs.declared.call.Placed.{Placed}
 use Rattle.unroll.specs.declared.call.Turn.{Turn}
 use Rattle.spmd_program.specs.Programs.{IsProgramText, program_of}
-use Rattle.spmd_program.specs.Requests.{AreOrdered, IsToldOf, IsUnordered, call_at}
+use Rattle.spmd_program.specs.Requests.{AreOrdered, IsToldOf, AreUnordered, call_of_line}
 
 -- they are right, where the text that was read is a program
 pub right : (bytes : List ℕ) (policy : Policy) (names : List (Vec ℕ)) (ranks : ℕ) (calls : List Placed) (source : ProgramText) (p : MpiProgram) → IsProgramText policy names ranks calls bytes
@@ -23,17 +23,17 @@ right bytes policy names ranks calls source p is read of =
 -- they are wrong, where that has a first fault, which is told of the call that it stands for
 pub wrong : (path bytes : List ℕ) (policy : Policy) (names given : List (Vec ℕ)) (ranks : ℕ) (turns held : List Turn) (calls made : List Placed) (source : ProgramText) (rank place behind : ℕ) (why : CallFault)
     (placed : Option Placed) (told : List ℕ) → IsProgramText policy names ranks calls bytes → IsTextWithin long bytes source → IsFirstCallFault long source rank place why → given ≡ names → held ≡ turns → made ≡ calls
-    → behind ≡ place - 1 → placed ≡ call_at made rank behind → IsToldOf path given held placed why told → IsUnordered path policy names ranks turns calls told
+    → behind ≡ place - 1 → placed ≡ call_of_line made rank behind → IsToldOf path given held placed why told → AreUnordered path policy names ranks turns calls told
 wrong path bytes policy names given ranks turns held calls made source rank place behind why placed told is read first same_names same_turns same_calls before found said =
-    let call : placed ≡ call_at calls rank (place - 1) =
-    found ∙ ap (λ (ps : List Placed). call_at ps rank behind) same_calls ∙ ap (λ (k : ℕ). call_at calls rank k) before in
-    let said_of_call : IsToldOf path given held (call_at calls rank (place - 1)) why told = subst (λ (o : Option Placed). IsToldOf path given held o why told) call said in
-    let said_of_turns : IsToldOf path given turns (call_at calls rank (place - 1)) why told =
-    subst (λ (ts : List Turn). IsToldOf path given ts (call_at calls rank (place - 1)) why told) same_turns said_of_call in
+    let call : placed ≡ call_of_line calls rank (place - 1) =
+    found ∙ ap (λ (ps : List Placed). call_of_line ps rank behind) same_calls ∙ ap (λ (k : ℕ). call_of_line calls rank k) before in
+    let said_of_call : IsToldOf path given held (call_of_line calls rank (place - 1)) why told = subst (λ (o : Option Placed). IsToldOf path given held o why told) call said in
+    let said_of_turns : IsToldOf path given turns (call_of_line calls rank (place - 1)) why told =
+    subst (λ (ts : List Turn). IsToldOf path given ts (call_of_line calls rank (place - 1)) why told) same_turns said_of_call in
     record {
       rank = rank;
       place = place;
       why = why;
       first = subst (λ (t : ProgramText). IsFirstCallFault long t rank place why) (one_value_within long bytes source (program_of policy names ranks calls) read is) first;
-      words = subst (λ (ns : List (Vec ℕ)). IsToldOf path ns turns (call_at calls rank (place - 1)) why told) same_names said_of_turns;
+      words = subst (λ (ns : List (Vec ℕ)). IsToldOf path ns turns (call_of_line calls rank (place - 1)) why told) same_names said_of_turns;
     }

@@ -4,7 +4,7 @@ use Rattle.std.specs.Prelude.{IfNone, IfSome, MatchOption}
 use Rattle.std.specs.Borrow.{Bor}
 use Rattle.std.specs.List.{after_first, before_first, position_or_len}
 use Rattle.std.proofs.lemmas.Bool.{le-ltb, lt-ltb}
-use Rattle.spmd_program.specs.Settings.{has_equals, is_equals, name_in, value_in}
+use Rattle.spmd_program.specs.Settings.{has_equals, is_equals, name_in_setting, value_in}
 
 abbrev pub AreAround : List ℕ → Option (Bor (List ℕ) × Bor (List ℕ)) → Type 0
 AreAround word r =
@@ -16,6 +16,6 @@ no_parts word None e = le-ltb (position_or_len is_equals word) (length word) (om
 no_parts word (Some x) e = tt
 
 pub parts : (word : List ℕ) (r : Option (Bor (List ℕ) × Bor (List ℕ))) → AreAround word r
-    → IfSome r (λ x. (has_equals word ≡ true) × (x.0.now ≡ name_in word) × (x.1.now ≡ value_in word))
+    → IfSome r (λ x. (has_equals word ≡ true) × (x.0.now ≡ name_in_setting word) × (x.1.now ≡ value_in word))
 parts word None e = tt
 parts word (Some x) (lt, name, value) = (lt-ltb (position_or_len is_equals word) (length word) lt, name, value)

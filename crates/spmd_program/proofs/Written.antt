@@ -15,12 +15,12 @@ use Rattle.calltext.specs.parts.Verbs.{name_words, number_words}
 use Rattle.calltext.specs.Verbs.{verb_of, verb_word}
 use Rattle.calltext.proofs.PrintLaws.{call_line}
 use Rattle.unroll.specs.declared.call.Placed.{Placed}
-use Rattle.spmd_program.specs.Lines.{lines_at, lines_of}
-use Rattle.spmd_program.specs.Written.{AreWritten}
+use Rattle.spmd_program.specs.Lines.{lines_at, lines_of_calls}
+use Rattle.spmd_program.specs.Written.{AreLinesWritten}
 
 -- a line is its verb, its names and its numbers with a space before each, and an LF
 pub line_written : (line : CallLine) (old mid new : List ℕ) → mid ≡ ((old ++ verb_word (verb_of line)) ++ spaced (name_words line)) ++ spaced (number_words line) → new ≡ mid ++ 10 ∷ []
-    → HasNames line → IsInRange long line → AreWritten (line ∷ []) old new
+    → HasNames line → IsInRange long line → AreLinesWritten (line ∷ []) old new
 line_written line old mid new begun ended names range = record {
   text =
       ended
@@ -30,10 +30,10 @@ line_written line old mid new begun ended names range = record {
   fit = ((names, range), tt);
 }
 
-pub none_written : (old : List ℕ) → AreWritten [] old old
+pub none_written : (old : List ℕ) → AreLinesWritten [] old old
 none_written old = record { text = sym (append-nil old); fit = tt }
 
-pub both_written : (xs ys : List CallLine) (old mid new : List ℕ) → AreWritten xs old mid → AreWritten ys mid new → AreWritten (xs ++ ys) old new
+pub both_written : (xs ys : List CallLine) (old mid new : List ℕ) → AreLinesWritten xs old mid → AreLinesWritten ys mid new → AreLinesWritten (xs ++ ys) old new
 both_written xs ys old mid new first second = record {
   text =
       second.text
@@ -46,14 +46,14 @@ both_written xs ys old mid new first second = record {
 -- the lines of the first calls are written; what is left makes the others
 pub record AreBegun (names : List (Vec ℕ)) (calls : List Placed) (place : ℕ) (old new : List ℕ) : Type 0 where
   pub front : List CallLine
-  pub whole : front ++ lines_of names (drop place calls) ≡ lines_of names calls
-  pub written : AreWritten front old new
+  pub whole : front ++ lines_of_calls names (drop place calls) ≡ lines_of_calls names calls
+  pub written : AreLinesWritten front old new
 
 pub none_begun : (names : List (Vec ℕ)) (calls : List Placed) (old : List ℕ) → AreBegun names calls 0 old old
 none_begun names calls old = record { front = []; whole = refl; written = none_written old }
 
 pub one_begun : (names : List (Vec ℕ)) (calls rest : List Placed) (place : ℕ) (d : Placed) (old mid new : List ℕ) → place < length calls → rest ≡ drop (place + 1) calls
-    → AreBegun names calls place old mid → AreWritten (lines_at names (get_or calls place d) rest) mid new → AreBegun names calls (place + 1) old new
+    → AreBegun names calls place old mid → AreLinesWritten (lines_at names (get_or calls place d) rest) mid new → AreBegun names calls (place + 1) old new
 one_begun names calls rest place d old mid new lt is begun wrote =
     let p : Placed = get_or calls place d in
     let cut : drop place calls ≡ p ∷ rest =
@@ -61,18 +61,18 @@ one_begun names calls rest place d old mid new lt is begun wrote =
     record {
       front = begun.front ++ lines_at names p rest;
       whole =
-          ap (λ (ps : List Placed). (begun.front ++ lines_at names p rest) ++ lines_of names ps) (sym is)
-          ∙ append_assoc begun.front (lines_at names p rest) (lines_of names rest)
-          ∙ ap (λ (xs : List Placed). begun.front ++ lines_of names xs) (sym cut)
+          ap (λ (ps : List Placed). (begun.front ++ lines_at names p rest) ++ lines_of_calls names ps) (sym is)
+          ∙ append_assoc begun.front (lines_at names p rest) (lines_of_calls names rest)
+          ∙ ap (λ (xs : List Placed). begun.front ++ lines_of_calls names xs) (sym cut)
           ∙ begun.whole;
       written = both_written begun.front (lines_at names p rest) old mid new begun.written wrote;
     }
 
-pub all_begun : (names : List (Vec ℕ)) (calls : List Placed) (place : ℕ) (old new : List ℕ) → drop place calls ≡ [] → AreBegun names calls place old new → AreWritten (lines_of names calls) old new
+pub all_begun : (names : List (Vec ℕ)) (calls : List Placed) (place : ℕ) (old new : List ℕ) → drop place calls ≡ [] → AreBegun names calls place old new → AreLinesWritten (lines_of_calls names calls) old new
 all_begun names calls place old new over begun =
-    let whole : begun.front ≡ lines_of names calls =
-    sym (append-nil begun.front) ∙ ap (λ (xs : List Placed). begun.front ++ lines_of names xs) (sym over) ∙ begun.whole in
-    subst (λ (lines : List CallLine). AreWritten lines old new) whole begun.written
+    let whole : begun.front ≡ lines_of_calls names calls =
+    sym (append-nil begun.front) ∙ ap (λ (xs : List Placed). begun.front ++ lines_of_calls names xs) (sym over) ∙ begun.whole in
+    subst (λ (lines : List CallLine). AreLinesWritten lines old new) whole begun.written
 
 -- a slice to the end is what is left
 pub to_end : (calls : List Placed) (place : ℕ) → take (length calls - place) (drop place calls) ≡ drop place calls

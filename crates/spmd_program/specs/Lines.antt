@@ -15,13 +15,13 @@ use Rattle.unroll.specs.declared.call.Placed.{Placed}
 
 -- ---- names
 
-abbrev pub letters_of : Option (Vec ℕ) → List ℕ
-letters_of None = []
-letters_of (Some name) = name.items
+abbrev pub letters_of_name : Option (Vec ℕ) → List ℕ
+letters_of_name None = []
+letters_of_name (Some name) = name.items
 
 -- the letters of the name at a place of the list of the text's names
 abbrev pub name_at : List (Vec ℕ) → ℕ → List ℕ
-name_at names place = letters_of (slice_get names place)
+name_at names place = letters_of_name (slice_get names place)
 
 abbrev pub index_text : Option ℕ → List ℕ
 index_text None = []
@@ -31,9 +31,9 @@ index_text (Some i) = codes "ix" ++ numeral i
 abbrev pub spelled : List (Vec ℕ) → Label → List ℕ
 spelled names l = name_at names l.name ++ index_text l.index
 
-abbrev pub request_of : List (Vec ℕ) → Option Label → Option (List ℕ)
-request_of names None = None
-request_of names (Some l) = Some (spelled names l)
+abbrev pub spelled_request : List (Vec ℕ) → Option Label → Option (List ℕ)
+spelled_request names None = None
+spelled_request names (Some l) = Some (spelled names l)
 
 -- ---- parts of a line
 
@@ -43,8 +43,8 @@ mode_of manner.Synchronous = mode.Synchronous
 mode_of manner.Buffered = mode.Buffered
 
 -- communicator 0 is not written
-abbrev pub written : ℕ → Option ℕ
-written c = if nat_eq c 0 then None else Some c
+abbrev pub shown_communicator : ℕ → Option ℕ
+shown_communicator c = if nat_eq c 0 then None else Some c
 
 abbrev pub also_of : Call → Option Label
 also_of (call.WaitAlso r) = Some r
@@ -61,15 +61,15 @@ further names (p ∷ ps) = also_named names (also_of p.call) (further names ps)
 
 -- the line that begins with a call, where these calls stand behind it
 abbrev pub line_of_call : List (Vec ℕ) → Call → List Placed → CallLine
-line_of_call names (call.Send m r d t c) rest = line.Send (mode_of m) (request_of names r) d t (written c)
-line_of_call names (call.Receive r s t c) rest = line.Receive (request_of names r) s t (written c)
-line_of_call names (call.MatchedProbe h s t c) rest = line.MatchedProbe (spelled names h) s t (written c)
-line_of_call names (call.Probe s t c) rest = line.Probe s t (written c)
-line_of_call names (call.MatchedReceive r h) rest = line.MatchedReceive (request_of names r) (spelled names h)
+line_of_call names (call.Send m r d t c) rest = line.Send (mode_of m) (spelled_request names r) d t (shown_communicator c)
+line_of_call names (call.Receive r s t c) rest = line.Receive (spelled_request names r) s t (shown_communicator c)
+line_of_call names (call.MatchedProbe h s t c) rest = line.MatchedProbe (spelled names h) s t (shown_communicator c)
+line_of_call names (call.Probe s t c) rest = line.Probe s t (shown_communicator c)
+line_of_call names (call.MatchedReceive r h) rest = line.MatchedReceive (spelled_request names r) (spelled names h)
 line_of_call names (call.Wait r) rest = line.Wait (spelled names r)
 line_of_call names (call.WaitAll r) rest = line.WaitAll (spelled names r ∷ further names rest)
 line_of_call names (call.WaitAlso r) rest = line.WaitAll (spelled names r ∷ further names rest)
-line_of_call names (call.SendReceive d t s u c) rest = line.SendReceive d t s u (written c)
+line_of_call names (call.SendReceive d t s u c) rest = line.SendReceive d t s u (shown_communicator c)
 
 -- ---- lines
 
@@ -82,6 +82,6 @@ abbrev pub lines_at : List (Vec ℕ) → Placed → List Placed → List CallLin
 lines_at names p rest = if begins_line p.call then line_of_call names p.call rest ∷ [] else []
 
 -- the lines of these calls
-abbrev pub lines_of : List (Vec ℕ) → List Placed → List CallLine
-lines_of names [] = []
-lines_of names (p ∷ ps) = lines_at names p ps ++ lines_of names ps
+abbrev pub lines_of_calls : List (Vec ℕ) → List Placed → List CallLine
+lines_of_calls names [] = []
+lines_of_calls names (p ∷ ps) = lines_at names p ps ++ lines_of_calls names ps

@@ -9,20 +9,20 @@ use Rattle.calltext.specs.Limits.{long}
 use Rattle.spmd_text.specs.declared.reading.Policy.{Policy as Buffering}
 use Rattle.spmd_text.specs.declared.reading.Policy.TheVariants as buffering
 use Rattle.unroll.specs.declared.call.Placed.{Placed}
-use Rattle.spmd_program.specs.Lines.{lines_of}
+use Rattle.spmd_program.specs.Lines.{lines_of_calls}
 
-abbrev pub policy_of : Buffering → Policy
-policy_of buffering.Any = policy.Any
-policy_of buffering.Never = policy.Never
-policy_of buffering.Always = policy.Always
+abbrev pub policy_of_buffering : Buffering → Policy
+policy_of_buffering buffering.Any = policy.Any
+policy_of_buffering buffering.Never = policy.Never
+policy_of_buffering buffering.Always = policy.Always
 
 -- the calls of a rank among those of all ranks
-abbrev pub calls_of : ℕ → List Placed → List Placed
-calls_of rank calls = filter (λ p. nat_eq p.rank rank) calls
+abbrev pub calls_of_rank : ℕ → List Placed → List Placed
+calls_of_rank rank calls = filter (λ p. nat_eq p.rank rank) calls
 
 -- the program of so many ranks with these calls, where names have these letters
 abbrev pub program_of : Buffering → List (Vec ℕ) → ℕ → List Placed → ProgramText
-program_of p names size calls = record { policy = policy_of p; ranks = map (λ rank. lines_of names (calls_of rank calls)) (range_with_len 0 size) }
+program_of p names size calls = record { policy = policy_of_buffering p; ranks = map (λ rank. lines_of_calls names (calls_of_rank rank calls)) (range_with_len 0 size) }
 
 -- the bytes are its text, which can be read again within the long limits: by calltext's laws as
 -- this program and no other

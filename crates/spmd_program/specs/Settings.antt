@@ -21,8 +21,8 @@ is_equals b = b == 61
 abbrev pub has_equals : List ℕ → Bool
 has_equals word = nat_lt (position_or_len is_equals word) (length word)
 
-abbrev pub name_in : List ℕ → List ℕ
-name_in word = before_first is_equals word
+abbrev pub name_in_setting : List ℕ → List ℕ
+name_in_setting word = before_first is_equals word
 
 abbrev pub value_in : List ℕ → List ℕ
 value_in word = after_first is_equals word
@@ -38,9 +38,9 @@ abbrev pub digits_in : List ℕ → Option ℕ
 digits_in ds = if nat_eq (length ds) 0 then None else if nat_lt 19 (length ds) then None else digits_from 0 ds
 
 -- the number that a text spells, with a minus before its digits where it is below 0
-abbrev pub number_in : List ℕ → Option ℤ
-number_in [] = None
-number_in (c ∷ cs) = if c == 45 then option_map (λ n. pos 0 -ℤ pos n) (digits_in cs) else option_map pos (digits_in (c ∷ cs))
+abbrev pub number_in_value : List ℕ → Option ℤ
+number_in_value [] = None
+number_in_value (c ∷ cs) = if c == 45 then option_map (λ n. pos 0 -ℤ pos n) (digits_in cs) else option_map pos (digits_in (c ∷ cs))
 
 -- ---- the values that settings give
 
@@ -67,7 +67,7 @@ set_number t values name (Some number) = set_place values number (parameter_of t
 
 -- one setting more
 abbrev pub set_one : Text → List (Option Value) → List ℕ → Result (List (Option Value)) SettingFault
-set_one t values word = if has_equals word then set_number t values (name_in word) (number_in (value_in word)) else Err fault.NoEquals
+set_one t values word = if has_equals word then set_number t values (name_in_setting word) (number_in_value (value_in word)) else Err fault.NoEquals
 
 -- a setting, and what is wrong with it
 pub record Unset : Type 0 where
@@ -84,8 +84,8 @@ set_all t values [] = Ok values
 set_all t values (w ∷ ws) = on_set w (set_one t values w) (λ v. set_all t v ws)
 
 -- the values with which a text begins
-abbrev pub values_of : Text → List (List ℕ) → Result (List (Option Value)) Unset
-values_of t words = set_all t (unset t.names.items) words
+abbrev pub values_of_settings : Text → List (List ℕ) → Result (List (Option Value)) Unset
+values_of_settings t words = set_all t (unset t.names.items) words
 
 -- ---- the code's view
 

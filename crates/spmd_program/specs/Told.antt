@@ -36,8 +36,8 @@ turns_text names turns number = turns_from 32 names turns number
 -- ---- reasons
 
 -- a name or a number between two texts
-unfoldable pub named : List ℕ → List (Vec ℕ) → ℕ → List ℕ → List ℕ
-named before names name after = before ++ (name_at names name ++ after)
+unfoldable pub name_between : List ℕ → List (Vec ℕ) → ℕ → List ℕ → List ℕ
+name_between before names name after = before ++ (name_at names name ++ after)
 
 unfoldable pub counted : List ℕ → ℤ → List ℕ → List ℕ
 counted before number after = before ++ (signed_decimal number ++ after)
@@ -47,8 +47,8 @@ peer_text size peer = if int_lt peer (pos 0) then counted (codes "peer ") peer (
 
 -- what is wrong, in a program of so many ranks
 abbrev pub reason_text : List (Vec ℕ) → ℕ → Reason → List ℕ
-reason_text names size (reason.NoValue name) = named [] names name (codes " has no value here")
-reason_text names size (reason.NoSetting name) = named (codes "the parameter ") names name (codes " has no value")
+reason_text names size (reason.NoValue name) = name_between [] names name (codes " has no value here")
+reason_text names size (reason.NoSetting name) = name_between (codes "the parameter ") names name (codes " has no value")
 reason_text names size reason.Overflow = codes "a number beyond 64 bits"
 reason_text names size (reason.Divisor divisor) = counted (codes "divisor ") divisor (codes " is not above 0")
 reason_text names size (reason.Shift by) = counted (codes "a shift by ") by (codes " is not 0 to 62")
@@ -60,8 +60,8 @@ reason_text names size (reason.TagRange tag) = counted (codes "tag ") tag (codes
 reason_text names size (reason.CommunicatorRange communicator) = counted (codes "communicator ") communicator (codes " is not 0 to 127")
 reason_text names size (reason.IndexRange index) = counted (codes "index ") index (codes " is not 0 to 99999")
 reason_text names size reason.ErrorReached = codes "error was reached"
-reason_text names size (reason.StillOpen name) = named [] names name (codes " is started again before its end")
-reason_text names size (reason.NeverEnded name) = named [] names name (codes " is never waited for")
+reason_text names size (reason.StillOpen name) = name_between [] names name (codes " is started again before its end")
+reason_text names size (reason.NeverEnded name) = name_between [] names name (codes " is never waited for")
 reason_text names size reason.TooManyCalls = codes "more than 18446744073709551615 calls"
 reason_text names size reason.TooManyTurns = codes "more than 10000000 turns of loops"
 reason_text names size (reason.GroupStep step) = counted (codes "step ") step (codes " of a group is not 1 to 65535")
@@ -71,9 +71,9 @@ reason_text names size reason.TooManyCollectives = codes "more than 67108864 col
 -- ---- places
 
 -- the line of the text at a path, on a rank, in these turns
-abbrev pub place_text : List ℕ → List (Vec ℕ) → List Turn → ℕ → ℕ → ℕ → List ℕ
-place_text path names turns line rank turn = path ++ (codes ":" ++ (numeral line ++ (codes ", rank " ++ (numeral rank ++ turns_text names turns turn))))
+abbrev pub spmd_place_text : List ℕ → List (Vec ℕ) → List Turn → ℕ → ℕ → ℕ → List ℕ
+spmd_place_text path names turns line rank turn = path ++ (codes ":" ++ (numeral line ++ (codes ", rank " ++ (numeral rank ++ turns_text names turns turn))))
 
 -- what is told of a fault of unrolling
 abbrev pub fault_text : List ℕ → List (Vec ℕ) → ℕ → List Turn → Fault → List ℕ
-fault_text path names size turns f = place_text path names turns f.line f.rank f.turn ++ (codes ": " ++ reason_text names size f.reason)
+fault_text path names size turns f = spmd_place_text path names turns f.line f.rank f.turn ++ (codes ": " ++ reason_text names size f.reason)

@@ -13,8 +13,8 @@ ghost use Rattle.calltext.specs.parts.Verbs.{message_words, name_words, number_w
 ghost use Rattle.calltext.specs.Verbs.{verb_of};
 ghost use Rattle.plaintext.specs.TextLines.{spaced};
 ghost use Rattle.plaintext.specs.Plain.{numeral};
-ghost use Rattle.spmd_program.specs.Lines.{further, line_of_call, lines_at, lines_of, mode_of, request_of, spelled, written};
-ghost use Rattle.spmd_program.specs.Written.{AreWritten};
+ghost use Rattle.spmd_program.specs.Lines.{further, line_of_call, lines_at, lines_of_calls, mode_of, spelled_request, spelled, shown_communicator};
+ghost use Rattle.spmd_program.specs.Written.{AreLinesWritten};
 ghost use Rattle.unroll.specs.declared.call.Placed.{Placed};
 
 use crate::names::put_label;
@@ -47,8 +47,8 @@ fn put_or_star(out: &mut Vec<u8>, number: Option<u32>) -> Result<(), AllocError>
 }
 
 fn put_communicator(out: &mut Vec<u8>, communicator: u32) -> Result<(), AllocError>
-    ensures text { OnOk result (out.new.items ≡ out.old.items ++ spaced (communicator_words (written communicator))) }
-    ensures small { OnOk result (IsCommunicator 2147483647 (written communicator)) }
+    ensures text { OnOk result (out.new.items ≡ out.old.items ++ spaced (communicator_words (shown_communicator communicator))) }
+    ensures small { OnOk result (IsCommunicator 2147483647 (shown_communicator communicator)) }
 {
     if communicator == 0 {
         return Ok(());
@@ -63,10 +63,10 @@ fn put_message(
     tag: u32,
     communicator: u32,
 ) -> Result<(), AllocError>
-    ensures text { OnOk result (out.new.items ≡ out.old.items ++ spaced (message_words destination tag (written communicator))) }
+    ensures text { OnOk result (out.new.items ≡ out.old.items ++ spaced (message_words destination tag (shown_communicator communicator))) }
     ensures destination { OnOk result (destination ≤ 2147483647) }
     ensures tag { OnOk result (tag ≤ 2147483647) }
-    ensures communicator { OnOk result (IsCommunicator 2147483647 (written communicator)) }
+    ensures communicator { OnOk result (IsCommunicator 2147483647 (shown_communicator communicator)) }
 {
     put_small(out, destination)?;
     put_small(out, tag)?;
@@ -79,10 +79,10 @@ fn put_pattern(
     tag: Option<u32>,
     communicator: u32,
 ) -> Result<(), AllocError>
-    ensures text { OnOk result (out.new.items ≡ out.old.items ++ spaced (pattern_words source tag (written communicator))) }
+    ensures text { OnOk result (out.new.items ≡ out.old.items ++ spaced (pattern_words source tag (shown_communicator communicator))) }
     ensures source { OnOk result (UpTo 2147483647 source) }
     ensures tag { OnOk result (UpTo 2147483647 tag) }
-    ensures communicator { OnOk result (IsCommunicator 2147483647 (written communicator)) }
+    ensures communicator { OnOk result (IsCommunicator 2147483647 (shown_communicator communicator)) }
 {
     put_or_star(out, source)?;
     put_or_star(out, tag)?;
@@ -95,8 +95,8 @@ fn put_request(
     names: &[Vec<u8>],
     request: Option<Label>,
 ) -> Result<(), AllocError>
-    ensures text { OnOk result (out.new.items ≡ out.old.items ++ spaced (request_words (request_of names.now request))) }
-    ensures name { OnOk result (IfSome (request_of names.now request) (λ name. IsTrue (is_name name))) }
+    ensures text { OnOk result (out.new.items ≡ out.old.items ++ spaced (request_words (spelled_request names.now request))) }
+    ensures name { OnOk result (IfSome (spelled_request names.now request) (λ name. IsTrue (is_name name))) }
 {
     match request {
         None => Ok(()),
@@ -258,7 +258,7 @@ fn put_line(
     call: Call,
     rest: &[Placed],
 ) -> Result<(), AllocError>
-    ensures { OnOk result (AreWritten (line_of_call names.now call rest.now ∷ []) out.old.items out.new.items) }
+    ensures { OnOk result (AreLinesWritten (line_of_call names.now call rest.now ∷ []) out.old.items out.new.items) }
 {
     let verb = verb_of(call);
     out.extend_from_slice(verb.text().as_bytes())?;
@@ -276,7 +276,7 @@ fn put_call(
     placed: Placed,
     rest: &[Placed],
 ) -> Result<(), AllocError>
-    ensures { OnOk result (AreWritten (lines_at names.now placed rest.now) out.old.items out.new.items) }
+    ensures { OnOk result (AreLinesWritten (lines_at names.now placed rest.now) out.old.items out.new.items) }
 {
     match placed.call {
         Call::WaitAlso { .. } => Ok(()),
@@ -291,7 +291,7 @@ pub fn put_lines(
     names: &[Vec<u8>],
     calls: &[Placed],
 ) -> Result<(), AllocError>
-    ensures { OnOk result (AreWritten (lines_of names.now calls.now) out.old.items out.new.items) }
+    ensures { OnOk result (AreLinesWritten (lines_of_calls names.now calls.now) out.old.items out.new.items) }
 {
     for (place, placed) in calls.iter().enumerate() {
         put_call(alloc, out, names, *placed, &calls[place + 1..])?;

@@ -2,8 +2,8 @@
 
 ghost use Rattle.std.specs.Prelude.{◌≡◌, ◌++◌, ◌-◌, ◌≤◌, IfOk, OnOk, decimal, map, slice_get};
 ghost use Rattle.spmd_program.specs.Lines.{begins_line};
-ghost use Rattle.spmd_program.specs.Entries.{entries_of, entry_of, words_of_place};
-ghost use Rattle.spmd_program.specs.Maps.{hex_digit, hex_text, map_head, map_text, said, shown_byte, sum_of};
+ghost use Rattle.spmd_program.specs.Entries.{entries_of, entry_of_call, words_of_place};
+ghost use Rattle.spmd_program.specs.Maps.{hex_digit, hex_text, map_head, program_map, said_words, shown_path_byte, checksum_of};
 
 use crate::said::said_lines;
 use crate::told::{put, put_turns};
@@ -13,7 +13,7 @@ use unroll::{Call, Placed, Turn};
 
 /// The checksum of Fowler, Noll and Vo in its form `1a`, of 64 bits.
 fn sum_of(bytes: &[u8]) -> u64
-    ensures { result ≡ sum_of bytes.now }
+    ensures { result ≡ checksum_of bytes.now }
 {
     let mut sum: u64 = 0xcbf2_9ce4_8422_2325;
     for byte in bytes {
@@ -65,7 +65,7 @@ fn put_head(alloc: Global, out: &mut Vec<u8>, text: &[u8]) -> Result<(), AllocEr
 
 /// Adds what a line of the SPMD text says, from 1.
 fn put_said(out: &mut Vec<u8>, says: &[Vec<u8>], line: u32) -> Result<(), AllocError>
-    ensures { OnOk result (out.new.items ≡ out.old.items ++ said (slice_get (map (λ words. words.items) says.now) (line - 1))) }
+    ensures { OnOk result (out.new.items ≡ out.old.items ++ said_words (slice_get (map (λ words. words.items) says.now) (line - 1))) }
 {
     let place = line.saturating_sub(1);
     match says.get(place as usize) {
@@ -76,7 +76,7 @@ fn put_said(out: &mut Vec<u8>, says: &[Vec<u8>], line: u32) -> Result<(), AllocE
 
 /// A text that has no byte beside printable ASCII.
 fn shown(alloc: Global, path: &str) -> Result<Vec<u8>, AllocError>
-    ensures { IfOk result (λ shown. shown.items ≡ map shown_byte path.now) }
+    ensures { IfOk result (λ shown. shown.items ≡ map shown_path_byte path.now) }
 {
     path.as_bytes()
         .iter()
@@ -123,7 +123,7 @@ fn put_entry(
     number: u64,
     placed: Placed,
 ) -> Result<(), AllocError>
-    ensures { OnOk result (out.new.items ≡ out.old.items ++ entry_of sources.now number placed) }
+    ensures { OnOk result (out.new.items ≡ out.old.items ++ entry_of_call sources.now number placed) }
 {
     put(out, "line ")?;
     put_decimal(alloc, out, number)?;
@@ -180,7 +180,7 @@ pub fn map_text(
     calls: &[Placed],
     text: &[u8],
 ) -> Result<Vec<u8>, AllocError>
-    ensures { IfOk result (λ map. map.items ≡ map_text path.now names.now source.now turns.now calls.now text.now) }
+    ensures { IfOk result (λ map. map.items ≡ program_map path.now names.now source.now turns.now calls.now text.now) }
 {
     let path = shown(alloc, path)?;
     let says = said_lines(alloc, source)?;

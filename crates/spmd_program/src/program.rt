@@ -4,9 +4,9 @@ ghost use Rattle.std.specs.Prelude.{◌≡◌, ◌++◌, ◌≤◌, ◌<◌, [],
 ghost use Rattle.std.specs.List.{AllByRecursion};
 ghost use Rattle.calltext.specs.Grammar.{policy_word};
 ghost use Rattle.calltext.specs.parts.Printed.{heads, rank_text};
-ghost use Rattle.spmd_program.specs.Lines.{lines_of};
+ghost use Rattle.spmd_program.specs.Lines.{lines_of_calls};
 ghost use Rattle.spmd_program.specs.parts.Programs.{IsRankWritten};
-ghost use Rattle.spmd_program.specs.Programs.{IsProgramText, policy_of};
+ghost use Rattle.spmd_program.specs.Programs.{IsProgramText, policy_of_buffering};
 
 use crate::lines::put_lines;
 use plaintext::put_number;
@@ -30,7 +30,7 @@ fn of_rank(calls: &[Placed], rank: u32) -> (&[Placed], &[Placed])
 }
 
 fn policy_word(policy: Policy) -> &'static str
-    ensures { result.now ≡ policy_word (policy_of policy) }
+    ensures { result.now ≡ policy_word (policy_of_buffering policy) }
 {
     match policy {
         Policy::Any => "any",
@@ -41,7 +41,7 @@ fn policy_word(policy: Policy) -> &'static str
 
 /// Adds the two headings.
 fn put_heads(out: &mut Vec<u8>, ranks: u32, policy: Policy) -> Result<(), AllocError>
-    ensures { OnOk result (out.new.items ≡ out.old.items ++ heads ranks (policy_of policy)) }
+    ensures { OnOk result (out.new.items ≡ out.old.items ++ heads ranks (policy_of_buffering policy)) }
 {
     out.extend_from_slice(b"ranks ")?;
     put_number(out, ranks)?;
@@ -59,7 +59,7 @@ fn put_rank(
     rank: u32,
     calls: &[Placed],
 ) -> Result<(), AllocError>
-    ensures { OnOk result (IsRankWritten rank (lines_of names.now calls.now) out.old.items out.new.items) }
+    ensures { OnOk result (IsRankWritten rank (lines_of_calls names.now calls.now) out.old.items out.new.items) }
 {
     out.extend_from_slice(b"rank ")?;
     put_number(out, rank)?;

@@ -2,7 +2,7 @@
 
 ghost use Rattle.std.specs.Prelude.{◌≡◌, IfNone, IfSome, false, length, true, ℕ};
 ghost use Rattle.std.specs.List.{after_first, before_first};
-ghost use Rattle.spmd_program.specs.Ranges.{AreEnds, IsCount, IsRange, has_dot, is_dot};
+ghost use Rattle.spmd_program.specs.Ranges.{AreRangeEnds, IsRankCount, IsRange, has_dot, is_dot};
 
 /// The most ranks that there may be.
 const MOST: u32 = 2_147_483_647;
@@ -16,8 +16,8 @@ pub struct Ranks {
 
 /// The number of ranks that a text spells.
 fn count_of(text: &str) -> Option<u32>
-    ensures is { IfSome result (IsCount text.now) }
-    ensures none { IfNone result ((ranks : ℕ) → IsCount text.now ranks → ⊥) }
+    ensures is { IfSome result (IsRankCount text.now) }
+    ensures none { IfNone result ((ranks : ℕ) → IsRankCount text.now ranks → ⊥) }
 {
     match text.parse::<u32>() {
         Ok(ranks) if ranks >= 1 && ranks <= MOST => Some(ranks),
@@ -28,8 +28,8 @@ fn count_of(text: &str) -> Option<u32>
 /// The numbers from the one that the first text spells to the one that stands behind a dot in the
 /// other.
 fn several(before: &str, behind: &str) -> Option<Ranks>
-    ensures is { IfSome result (λ ranks. AreEnds before.now behind.now ranks.first ranks.last) }
-    ensures none { IfNone result ((first last : ℕ) → AreEnds before.now behind.now first last → ⊥) }
+    ensures is { IfSome result (λ ranks. AreRangeEnds before.now behind.now ranks.first ranks.last) }
+    ensures none { IfNone result ((first last : ℕ) → AreRangeEnds before.now behind.now first last → ⊥) }
 {
     let number = behind.strip_prefix('.')?;
     let first = count_of(before)?;

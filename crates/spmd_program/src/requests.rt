@@ -2,8 +2,8 @@
 
 ghost use Rattle.std.specs.Prelude.{◌≡◌, ◌++◌, ◌-◌, IfErr, IfOk, OnOk, codes};
 ghost use Rattle.spmd_program.specs.Programs.{IsProgramText};
-ghost use Rattle.spmd_program.specs.Requests.{AreOrdered, IsToldOf, IsUnordered, begins_line_of, call_at, fault_words};
-ghost use Rattle.spmd_program.specs.Unrolling.{Tells};
+ghost use Rattle.spmd_program.specs.Requests.{AreOrdered, IsToldOf, AreUnordered, begins_line_of, call_of_line, fault_words};
+ghost use Rattle.spmd_program.specs.Unrolling.{TellsRefusal};
 
 use crate::maps::begins_line;
 use crate::told::{Place, put, put_place};
@@ -23,7 +23,7 @@ fn begins_line_of(rank: u32, placed: &Placed) -> bool
 
 /// The call that begins the line of this place, from 0, of a rank.
 fn call_at(calls: &[Placed], rank: u32, place: usize) -> Option<Placed>
-    ensures { result ≡ call_at calls.now rank place }
+    ensures { result ≡ call_of_line calls.now rank place }
 {
     let mut left = place;
     for placed in calls {
@@ -91,7 +91,7 @@ pub fn ordered(
 ) -> Result<(), NotUnrolled>
     requires { IsProgramText text.now.policy text.now.names.items ranks unrolled.now.calls.items program.now }
     ensures ordered { OnOk result (AreOrdered text.now.policy text.now.names.items ranks unrolled.now.calls.items) }
-    ensures fault { IfErr result (Tells (IsUnordered path.now text.now.policy text.now.names.items ranks
+    ensures fault { IfErr result (TellsRefusal (AreUnordered path.now text.now.policy text.now.names.items ranks
         unrolled.now.turns.items unrolled.now.calls.items)) }
 {
     let Ok(source) = read_long(alloc, program) else {

@@ -2,20 +2,20 @@
 
 ghost use Rattle.std.specs.Prelude.{◌≡◌, ◌++◌, IfOk, OnOk, map};
 ghost use Rattle.plaintext.specs.TextLines.{text_lines};
-ghost use Rattle.spmd_program.specs.Maps.{blank_before, is_blank, said_lines, words_of};
+ghost use Rattle.spmd_program.specs.Maps.{blank_before_byte, is_blank_byte, said_lines, words_of_line};
 
 use plaintext::next_line;
 use std::alloc::{AllocError, Global};
 
 fn is_blank(byte: u8) -> bool
-    ensures { result ≡ is_blank byte }
+    ensures { result ≡ is_blank_byte byte }
 {
     byte == b'\n' || byte == b' ' || byte == b'\t' || byte == b'\r'
 }
 
 /// Adds the blank that stands before a byte of a line, where words began and blanks came or not.
 fn put_blank(out: &mut Vec<u8>, begun: bool, blank: bool, byte: u8) -> Result<(), AllocError>
-    ensures { OnOk result (out.new.items ≡ out.old.items ++ blank_before begun blank byte) }
+    ensures { OnOk result (out.new.items ≡ out.old.items ++ blank_before_byte begun blank byte) }
 {
     if begun && blank && byte != b'<' {
         out.push(b' ')?;
@@ -26,7 +26,7 @@ fn put_blank(out: &mut Vec<u8>, begun: bool, blank: bool, byte: u8) -> Result<()
 /// What a line says up to a comment, with single blanks between its words, and none before `<`: a
 /// map has callers behind that mark.
 fn words_of(alloc: Global, line: &[u8]) -> Result<Vec<u8>, AllocError>
-    ensures { IfOk result (λ words. words.items ≡ words_of line.now) }
+    ensures { IfOk result (λ words. words.items ≡ words_of_line line.now) }
 {
     let mut out = Vec::new(alloc);
     let mut begun = false;

@@ -3,7 +3,7 @@
 ghost use Rattle.std.specs.Prelude.{◌≡◌, ◌^◌, ◌<◌, ◌-ℤ◌, IfNone, IfOk, IfSome, false, map, nat_eq, option_map, pos, slice_get, true};
 ghost use Rattle.std.specs.List.{list_any};
 ghost use Rattle.unroll.specs.Statements.{has_value};
-ghost use Rattle.spmd_program.specs.Settings.{Sets, SetsOne, digits_from, digits_in, has_equals, name_in, number_in, of_parameter, parameter_of, set_all, set_one, set_place, unset, value_in};
+ghost use Rattle.spmd_program.specs.Settings.{Sets, SetsOne, digits_from, digits_in, has_equals, name_in_setting, number_in_value, of_parameter, parameter_of, set_all, set_one, set_place, unset, value_in};
 
 use spmd_text::{Text, place_of};
 use std::alloc::{AllocError, Global};
@@ -83,7 +83,7 @@ fn negative(digits: Option<u64>) -> Option<i64>
 
 /// The number that a text spells, with a minus before its digits where it is below 0.
 fn number_in(text: &[u8]) -> Option<i64>
-    ensures { result ≡ number_in text.now }
+    ensures { result ≡ number_in_value text.now }
 {
     let [first, digits @ ..] = text else {
         return None;
@@ -156,7 +156,7 @@ fn set_place(
 /// What stands before the first `=` of a setting, and behind it.
 fn parts_of(word: &str) -> Option<(&str, &str)>
     ensures none { IfNone result (has_equals word.now ≡ false) }
-    ensures some { IfSome result (λ parts. (has_equals word.now ≡ true) × (parts.0.now ≡ name_in word.now) ×
+    ensures some { IfSome result (λ parts. (has_equals word.now ≡ true) × (parts.0.now ≡ name_in_setting word.now) ×
         (parts.1.now ≡ value_in word.now)) }
 {
     word.split_once('=')

@@ -2,7 +2,7 @@
 
 ghost use Rattle.std.specs.Prelude.{◌≡◌, ◌++◌, OnOk};
 ghost use Rattle.std.specs.Fmt.{signed_decimal};
-ghost use Rattle.spmd_program.specs.Told.{counted, fault_text, named, peer_text, place_text, reason_text, turn_at, turn_words, turns_from};
+ghost use Rattle.spmd_program.specs.Told.{counted, fault_text, name_between, peer_text, spmd_place_text, reason_text, turn_at, turn_words, turns_from};
 
 use crate::names::put_name;
 use plaintext::put_number;
@@ -80,7 +80,7 @@ fn put_named(
     name: u32,
     after: &str,
 ) -> Result<(), AllocError>
-    ensures { OnOk result (out.new.items ≡ out.old.items ++ named before.now names.now name after.now) }
+    ensures { OnOk result (out.new.items ≡ out.old.items ++ name_between before.now names.now name after.now) }
 {
     put(out, before)?;
     put_name(out, names, name)?;
@@ -190,7 +190,7 @@ pub fn put_place(
     turns: &[Turn],
     place: Place,
 ) -> Result<(), AllocError>
-    ensures { OnOk result (out.new.items ≡ out.old.items ++ place_text path.now names.now turns.now place.line place.rank place.turn) }
+    ensures { OnOk result (out.new.items ≡ out.old.items ++ spmd_place_text path.now names.now turns.now place.line place.rank place.turn) }
 {
     put(out, path)?;
     put(out, ":")?;

@@ -3,12 +3,12 @@
 ghost use Rattle.std.specs.Prelude.{◌≡◌, ◌++◌, IfErr, IfOk, Ok, OnOk, codes, map, option_map};
 ghost use Rattle.plaintext.specs.Plain.{numeral};
 ghost use Rattle.unroll.specs.Statements.{text_run};
-ghost use Rattle.spmd_program.specs.Maps.{map_text};
+ghost use Rattle.spmd_program.specs.Maps.{program_map};
 ghost use Rattle.spmd_program.specs.Programs.{IsProgramText};
-ghost use Rattle.spmd_program.specs.Requests.{AreOrdered, IsUnordered};
-ghost use Rattle.spmd_program.specs.Settings.{values_of};
+ghost use Rattle.spmd_program.specs.Requests.{AreOrdered, AreUnordered};
+ghost use Rattle.spmd_program.specs.Settings.{values_of_settings};
 ghost use Rattle.spmd_program.specs.Told.{fault_text};
-ghost use Rattle.spmd_program.specs.Unrolling.{IsMapWanted, IsMissetOf, IsRefusal, IsToldUnread, IsUnrolling, IsUnrollingOf, IsWrongOf, Tells, setting_text, setting_words, told_at};
+ghost use Rattle.spmd_program.specs.Unrolling.{IsMapWanted, IsMissetOf, IsRefusal, IsToldUnread, IsUnrolling, IsUnrollingOf, IsWrongOf, TellsRefusal, setting_text, setting_words, told_at};
 ghost use Rattle.spmd_program.specs.declared.unrolling.NotUnrolled.TheVariants.{Memory};
 
 use crate::maps::map_text;
@@ -71,7 +71,7 @@ fn told_at(alloc: Global, path: &str, fault: ParseFault) -> Result<Vec<u8>, Allo
 
 /// What is told of bytes that are no text.
 fn unread(alloc: Global, path: &str, fault: TextFault) -> NotUnrolled
-    ensures { Tells (IsToldUnread path.now fault) result }
+    ensures { TellsRefusal (IsToldUnread path.now fault) result }
 {
     let fault = match fault {
         TextFault::Memory => return NotUnrolled::Memory,
@@ -143,7 +143,7 @@ fn map_wanted(
     mapped: bool,
 ) -> Result<Option<Vec<u8>>, AllocError>
     ensures { IfOk result (λ map. IsMapWanted mapped
-        (map_text path.now names.now source.now unrolled.now.turns.items unrolled.now.calls.items program.now)
+        (program_map path.now names.now source.now unrolled.now.turns.items unrolled.now.calls.items program.now)
         (option_map (λ m. m.items) map)) }
 {
     if !mapped {
@@ -175,9 +175,9 @@ fn printed(
         IsProgramText text.now.policy text.now.names.items ranks unrolled.now.calls.items made.program.items) }
     ensures ordered { OnOk result (AreOrdered text.now.policy text.now.names.items ranks unrolled.now.calls.items) }
     ensures map { IfOk result (λ made. IsMapWanted mapped
-        (map_text path.now text.now.names.items source.now unrolled.now.turns.items unrolled.now.calls.items made.program.items)
+        (program_map path.now text.now.names.items source.now unrolled.now.turns.items unrolled.now.calls.items made.program.items)
         (option_map (λ m. m.items) made.map)) }
-    ensures wrong { IfErr result (Tells (IsUnordered path.now text.now.policy text.now.names.items ranks
+    ensures wrong { IfErr result (TellsRefusal (AreUnordered path.now text.now.policy text.now.names.items ranks
         unrolled.now.turns.items unrolled.now.calls.items)) }
 {
     let program = program_text(alloc, text.policy, &text.names, ranks, &unrolled.calls)?;
@@ -193,8 +193,8 @@ fn values_of(
     text: &Text,
     settings: &[&str],
 ) -> Result<Vec<Option<Value>>, NotUnrolled>
-    ensures values { IfOk result (λ values. values_of text.now (map (λ s. s.now) settings.entry.now) ≡ Ok values.items) }
-    ensures wrong { IfErr result (Tells (IsMissetOf path.now (map (λ s. s.now) settings.entry.now) text.now)) }
+    ensures values { IfOk result (λ values. values_of_settings text.now (map (λ s. s.now) settings.entry.now) ≡ Ok values.items) }
+    ensures wrong { IfErr result (TellsRefusal (IsMissetOf path.now (map (λ s. s.now) settings.entry.now) text.now)) }
 {
     let mut values = unset(alloc, &text.names)?;
     match set_all(text, &mut values, settings) {
@@ -221,7 +221,7 @@ pub fn unrolled(
 ) -> Result<Unrolling, NotUnrolled>
     ensures unrolled { IfOk result (λ made.
         IsUnrolling path.now source.now ranks (map (λ s. s.now) settings.entry.now) barriers mapped made.program.items (option_map (λ m. m.items) made.map)) }
-    ensures refused { IfErr result (Tells (IsRefusal path.now source.now ranks (map (λ s. s.now) settings.entry.now) barriers)) }
+    ensures refused { IfErr result (TellsRefusal (IsRefusal path.now source.now ranks (map (λ s. s.now) settings.entry.now) barriers)) }
 {
     let text = match parse(alloc, source) {
         Err(fault) => return Err(unread(alloc, path, fault)),
@@ -248,7 +248,7 @@ fn unrolled_with(
     ensures unrolled { IfOk result (λ made.
         IsUnrollingOf (text_run text.now.program values.now ranks barriers 18446744073709551615 10000000)
         path.now source.now ranks text.now mapped made.program.items (option_map (λ m. m.items) made.map)) }
-    ensures refused { IfErr result (Tells (IsWrongOf (text_run text.now.program values.now ranks barriers
+    ensures refused { IfErr result (TellsRefusal (IsWrongOf (text_run text.now.program values.now ranks barriers
         18446744073709551615 10000000) path.now ranks text.now)) }
 {
     let limits = Limits {

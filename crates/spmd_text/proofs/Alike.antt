@@ -7,9 +7,9 @@ use Rattle.spmd_text.specs.declared.joints.Joint.{Joint}
 use Rattle.spmd_text.specs.declared.joints.Joint.TheVariants as joint
 use Rattle.spmd_text.specs.declared.joints.Prefix.{Prefix}
 use Rattle.spmd_text.specs.declared.joints.Prefix.TheVariants as prefix
-use Rattle.spmd_text.specs.parts.Joints.{Place, joined}
+use Rattle.spmd_text.specs.parts.Joints.{Place, joined_parts}
 use Rattle.spmd_text.specs.parts.Growing.{enclosed}
-use Rattle.spmd_text.specs.parts.Reading.{Form, binary, choice, compare, negation, both, either, grouped, negative, form_of, Alike}
+use Rattle.spmd_text.specs.parts.Reading.{Form, binary, choice, compare, negation, both, either, grouped, negative, syntax_form, Alike}
 
 form_condition : Form → Bool
 form_condition (compare c a b) = true
@@ -19,7 +19,7 @@ form_condition (either a b) = true
 form_condition (grouped a) = form_condition a
 form_condition _ = false
 
-condition_form : (e : Expression) → is_condition e ≡ form_condition (form_of e)
+condition_form : (e : Expression) → is_condition e ≡ form_condition (syntax_form e)
 unfolding form_condition
 condition_form (form.Grouped' p a) = condition_form a
 condition_form e = refl
@@ -33,21 +33,21 @@ ok_more (Ok x) P Q f h = f x h
 ok_more (Err e) P Q f h = h
 
 pub alike_joined : (j : Joint) (p : Place) (a : Expression) (q : Place) (b made x y : Expression) (p' q' : Place)
-    → made ≡ joined j p a q b → Alike a x → Alike b y → Alike made (joined j p' x q' y)
-alike_joined joint.Or p a q b made x y p' q' is e f = ap form_of is ∙ (ap (λ t. either t (form_of b)) e ∙ ap (either (form_of x)) f)
-alike_joined joint.And p a q b made x y p' q' is e f = ap form_of is ∙ (ap (λ t. both t (form_of b)) e ∙ ap (both (form_of x)) f)
-alike_joined (joint.Compared c) p a q b made x y p' q' is e f = ap form_of is ∙ (ap (λ t. compare c t (form_of b)) e ∙ ap (compare c (form_of x)) f)
-alike_joined (joint.Between o) p a q b made x y p' q' is e f = ap form_of is ∙ (ap (λ t. binary o t (form_of b)) e ∙ ap (binary o (form_of x)) f)
+    → made ≡ joined_parts j p a q b → Alike a x → Alike b y → Alike made (joined_parts j p' x q' y)
+alike_joined joint.Or p a q b made x y p' q' is e f = ap syntax_form is ∙ (ap (λ t. either t (syntax_form b)) e ∙ ap (either (syntax_form x)) f)
+alike_joined joint.And p a q b made x y p' q' is e f = ap syntax_form is ∙ (ap (λ t. both t (syntax_form b)) e ∙ ap (both (syntax_form x)) f)
+alike_joined (joint.Compared c) p a q b made x y p' q' is e f = ap syntax_form is ∙ (ap (λ t. compare c t (syntax_form b)) e ∙ ap (compare c (syntax_form x)) f)
+alike_joined (joint.Between o) p a q b made x y p' q' is e f = ap syntax_form is ∙ (ap (λ t. binary o t (syntax_form b)) e ∙ ap (binary o (syntax_form x)) f)
 
 pub alike_enclosed : (kind : Prefix) (p : Place) (a made x : Expression) (p' : Place) → made ≡ enclosed kind p a → Alike a x → Alike made (enclosed kind p' x)
-alike_enclosed prefix.Not p a made x p' is e = ap form_of is ∙ ap negation e
-alike_enclosed prefix.Minus p a made x p' is e = ap form_of is ∙ ap negative e
-alike_enclosed prefix.Parentheses p a made x p' is e = ap form_of is ∙ ap grouped e
+alike_enclosed prefix.Not p a made x p' is e = ap syntax_form is ∙ ap negation e
+alike_enclosed prefix.Minus p a made x p' is e = ap syntax_form is ∙ ap negative e
+alike_enclosed prefix.Parentheses p a made x p' is e = ap syntax_form is ∙ ap grouped e
 
 pub alike_choice : (p : Place) (c : Expression) (q : Place) (a : Expression) (s : Place) (b made c' a' b' : Expression) (p' q' s' : Place)
     → made ≡ form.Choice' p c q a s b → Alike c c' → Alike a a' → Alike b b' → Alike made (form.Choice' p' c' q' a' s' b')
 alike_choice p c q a s b made c' a' b' p' q' s' is e f g =
-    ap form_of is ∙ (ap (λ t. choice t (form_of a) (form_of b)) e ∙ (ap (λ t. choice (form_of c') t (form_of b)) f ∙ ap (choice (form_of c') (form_of a')) g))
+    ap syntax_form is ∙ (ap (λ t. choice t (syntax_form a) (syntax_form b)) e ∙ (ap (λ t. choice (syntax_form c') t (syntax_form b)) f ∙ ap (choice (syntax_form c') (syntax_form a')) g))
 
 pub ok_so : {A E : Type 0} (r : Result A E) (x : A) (P : A → Type 0) → r ≡ Ok x → IfOk r P → P x
 ok_so (Ok y) x P is h = let same : y ≡ x = cc in subst P same h
@@ -56,8 +56,8 @@ ok_so (Err e) x P is h = absurd cc
 pub ok_same : {A E : Type 0} (x y : A) → ◌≡◌ {A = Result A E} (Ok x) (Ok y) → x ≡ y
 ok_same x y e = cc
 
-pub put_joined : (j : Joint) (p q : Place) (x y a b made : Expression) → x ≡ a → y ≡ b → made ≡ joined j p x q y → made ≡ joined j p a q b
-put_joined j p q x y a b made e f is = is ∙ (ap (λ t. joined j p t q y) e ∙ ap (λ t. joined j p a q t) f)
+pub put_joined : (j : Joint) (p q : Place) (x y a b made : Expression) → x ≡ a → y ≡ b → made ≡ joined_parts j p x q y → made ≡ joined_parts j p a q b
+put_joined j p q x y a b made e f is = is ∙ (ap (λ t. joined_parts j p t q y) e ∙ ap (λ t. joined_parts j p a q t) f)
 
 pub put_enclosed : (kind : Prefix) (p : Place) (x a made : Expression) → x ≡ a → made ≡ enclosed kind p x → made ≡ enclosed kind p a
 put_enclosed kind p x a made e is = is ∙ ap (λ t. enclosed kind p t) e

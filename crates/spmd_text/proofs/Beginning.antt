@@ -11,17 +11,17 @@ use Rattle.spmd_text.specs.declared.joints.Row.{Row}
 use Rattle.spmd_text.specs.declared.parser.Parser.{Parser}
 use Rattle.spmd_text.specs.declared.piece.Piece.{Piece}
 use Rattle.spmd_text.specs.declared.piece.Token.{Token}
-use Rattle.spmd_text.specs.Spelling.{after, after_expression}
+use Rattle.spmd_text.specs.Spelling.{after_piece, after_expression}
 use Rattle.spmd_text.specs.Joints.{closeness}
-use Rattle.spmd_text.specs.Limits.{parts}
-use Rattle.spmd_text.specs.parts.Growing.{is_operand, opening, begun, beginning_of, first_close, leaf_of, IsRow, is_lone_tree}
+use Rattle.spmd_text.specs.Limits.{parts_in_row}
+use Rattle.spmd_text.specs.parts.Growing.{is_operand, opening_piece, begun, beginning_of, first_close, leaf_of, IsJointRow, is_lone_tree}
 use Rattle.spmd_text.specs.parts.Reading.{next, next_of, Ahead}
 use Rattle.spmd_text.proofs.Pieces.{taken}
 
 if_le : (A : Type 0) (a b : ℕ) (x y : A) → a ≤ b → (if nat_le a b then x else y) ≡ x
 if_le A a b x y h = let holds : nat_le a b ≡ true = grind (arith, nat_tests) in ap (λ (t : Bool). if t then x else y) holds
 
-pub begun_of : (a : Expression) (least : ℕ) → is_operand a ≡ true → least ≤ closeness a → beginning_of (opening a) least ≡ begun a
+pub begun_of : (a : Expression) (least : ℕ) → is_operand a ≡ true → least ≤ closeness a → beginning_of (opening_piece a) least ≡ begun a
 begun_of (form.Binary' o p a q b) least e h = absurd (false≢true e)
 begun_of (form.Compare' c p a q b) least e h = absurd (false≢true e)
 begun_of (form.Both' p a q b) least e h = absurd (false≢true e)
@@ -37,7 +37,7 @@ first_close_of (form.Both' p a q b) e = absurd (false≢true e)
 first_close_of (form.Either' p a q b) e = absurd (false≢true e)
 first_close_of a e = refl
 
-parts_of : (a : Expression) → is_operand a ≡ true → parts a ≡ 1
+parts_of : (a : Expression) → is_operand a ≡ true → parts_in_row a ≡ 1
 parts_of (form.Binary' o p a q b) e = absurd (false≢true e)
 parts_of (form.Compare' c p a q b) e = absurd (false≢true e)
 parts_of (form.Both' p a q b) e = absurd (false≢true e)
@@ -49,14 +49,14 @@ alone_of (form.Binary' o p a q b) e = absurd (false≢true e)
 alone_of a e = refl
 
 -- the row that a first part begins
-pub first_row : (a : Expression) (b : Beginning) (row : Row) → is_operand a ≡ true → b ≡ begun a → row ≡ record { binding = first_close b; joints = 0; lone = false } → IsRow row a
+pub first_row : (a : Expression) (b : Beginning) (row : Row) → is_operand a ≡ true → b ≡ begun a → row ≡ record { binding = first_close b; joints = 0; lone = false } → IsJointRow row a
 first_row a b row f e is = record {
   close = ap (λ (r : Row). r.binding) is ∙ (ap first_close e ∙ first_close_of a f);
   many = omega (arith, ap (λ (r : Row). r.joints) is, parts_of a f);
   alone = ap (λ (r : Row). r.lone) is ∙ sym (alone_of a f);
 }
 
-leaf_back : (a : Expression) → is_operand a ≡ true → begun a ≡ beginning.Leaf → leaf_of (opening a) ≡ Some a
+leaf_back : (a : Expression) → is_operand a ≡ true → begun a ≡ beginning.Leaf → leaf_of (opening_piece a) ≡ Some a
 leaf_back (form.Binary' o p a q b) e f = absurd (false≢true e)
 leaf_back (form.Compare' c p a q b) e f = absurd (false≢true e)
 leaf_back (form.Both' p a q b) e f = absurd (false≢true e)
@@ -67,7 +67,7 @@ leaf_back (form.Negation' p a) e f = absurd cc
 leaf_back (form.Choice' p c q a s b) e f = absurd cc
 leaf_back a e f = refl
 
-leaf_spelled : (a : Expression) (here rest : List Token) → is_operand a ≡ true → begun a ≡ beginning.Leaf → after_expression a (Some here) ≡ Some rest → after (opening a) (Some here) ≡ Some rest
+leaf_spelled : (a : Expression) (here rest : List Token) → is_operand a ≡ true → begun a ≡ beginning.Leaf → after_expression a (Some here) ≡ Some rest → after_piece (opening_piece a) (Some here) ≡ Some rest
 leaf_spelled (form.Binary' o p a q b) here rest e f is = absurd (false≢true e)
 leaf_spelled (form.Compare' c p a q b) here rest e f is = absurd (false≢true e)
 leaf_spelled (form.Both' p a q b) here rest e f is = absurd (false≢true e)
@@ -79,7 +79,7 @@ leaf_spelled (form.Choice' p c q a s b) here rest e f is = absurd cc
 leaf_spelled a here rest e f is = is
 
 -- the piece that was taken is the next one
-pub next_taken : (s : Parser) (p : Piece) (here rest : List Token) → s.fault ≡ None → s.rest.now ≡ here → after p (Some here) ≡ Some rest → next s ≡ p
+pub next_taken : (s : Parser) (p : Piece) (here rest : List Token) → s.fault ≡ None → s.rest.now ≡ here → after_piece p (Some here) ≡ Some rest → next s ≡ p
 next_taken s p here rest sound e is =
     let t = taken p here rest is in
     ap (λ (f : Option _). next_of f s.rest.now) sound ∙ (ap (next_of None) (e ∙ t.here_is) ∙ t.piece_so)
@@ -93,9 +93,9 @@ pub record LeafAt (s : Parser) (a : Expression) (rest : List Token) : Type 0 whe
 pub leaf_at : (s : Parser) (depth : ℕ) (a : Expression) (rest : List Token) → Ahead s depth a rest → is_operand a ≡ true → begun a ≡ beginning.Leaf → LeafAt s a rest
 leaf_at s depth a rest ahead e f =
     let is = leaf_spelled a s.rest.now rest e f ahead.spelled in
-    let t = taken (opening a) s.rest.now rest is in
+    let t = taken (opening_piece a) s.rest.now rest is in
     record {
-      found = ap leaf_of (next_taken s (opening a) s.rest.now rest ahead.sound refl is) ∙ leaf_back a e f;
+      found = ap leaf_of (next_taken s (opening_piece a) s.rest.now rest ahead.sound refl is) ∙ leaf_back a e f;
       token = t.token;
       here = t.here_is;
     }

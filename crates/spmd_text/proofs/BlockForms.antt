@@ -15,11 +15,11 @@ use Rattle.spmd_text.specs.declared.piece.Piece.{Piece}
 use Rattle.spmd_text.specs.declared.piece.Piece.TheVariants as piece
 use Rattle.spmd_text.specs.declared.piece.Token.{Token}
 use Rattle.spmd_text.specs.parts.Joints.{is_below, joint_of, stops}
-use Rattle.spmd_text.specs.parts.Reading.{Finds, behind, next_of, noted}
-use Rattle.spmd_text.specs.Spelling.{Rest, after, after_condition, after_end, after_gap, after_start, after_statement, after_value, begins, branch_word, is_branch, is_piece, is_tail, only}
-use Rattle.spmd_text.specs.parts.Parts.{Keeps, Part, Reads, condition_part, piece_part, then_part}
+use Rattle.spmd_text.specs.parts.Reading.{Finds, behind_next, next_of, first_noted}
+use Rattle.spmd_text.specs.Spelling.{Rest, after_piece, after_condition, after_end, after_gap, after_start, after_statement, after_value, piece_begins, branch_word, is_branch, is_piece, is_tail, only}
+use Rattle.spmd_text.specs.parts.Parts.{Keeps, SyntaxPart, HasRead, condition_part, piece_part, then_part}
 use Rattle.spmd_text.specs.parts.Statements.{Begins, IsInside, IsOtherwise, IsRepeat, IsWhen, MayStatements, MayTail, begun_part, end_part, ends_behind, ends_statements, first_word, is_first, is_one, is_simple, one_part, put_back, scope_of, span_part, statements_part, tail_part, variable_part}
-use Rattle.spmd_text.specs.Statements.{Obeys, Scope, line_at, within_loop}
+use Rattle.spmd_text.specs.Statements.{Obeys, Scope, line_of_first_piece, within_loop}
 use Rattle.spmd_text.proofs.Following.{and_left, and_right, before_piece, both_true, stops_tests}
 use Rattle.spmd_text.proofs.Going.{goes_failed, never_failed}
 use Rattle.spmd_text.proofs.LeftOut.{gap_strict}
@@ -33,7 +33,7 @@ use Rattle.spmd_text.proofs.BlockWords.{begins_so, condition_strict, end_ends, e
 -- ---- from the first word on
 
 pub reads_begun : {old mid new : Parser} {s : Statement} {scope : Scope} {depth line : ℕ} {w : Word} → Keeps old mid → (old.fault ≡ None → mid.fault ≡ None)
-    → (old.fault ≡ None → put_back line w (Some mid.rest.now) ≡ Some old.rest.now) → Reads (begun_part scope depth line w) mid new s → Reads (one_part scope depth w) old new s
+    → (old.fault ≡ None → put_back line w (Some mid.rest.now) ≡ Some old.rest.now) → HasRead (begun_part scope depth line w) mid new s → HasRead (one_part scope depth w) old new s
 reads_begun {old} {mid} {new} {s} {scope} {depth} {line} {w} goes sound_so back r = record {
   goes = keeps_on goes r.goes;
   finds = λ x rest sound e may ends. r.finds x rest (sound_so sound) (ap (λ (z : Rest). after_statement x z) (back sound) ∙ e) may ends;
@@ -41,7 +41,7 @@ reads_begun {old} {mid} {new} {s} {scope} {depth} {line} {w} goes sound_so back 
   may = r.may;
 }
 
-pub put_back_is : (w : Word) (here : List Token) → begins (piece.Word w) (Some here) ≡ true → put_back (line_at here) w (Some (behind here)) ≡ Some here
+pub put_back_is : (w : Word) (here : List Token) → piece_begins (piece.Word w) (Some here) ≡ true → put_back (line_of_first_piece here) w (Some (behind_next here)) ≡ Some here
 put_back_is w [] e = absurd (let never : false ≡ true = e in cc)
 put_back_is w (t ∷ ts) e = ap (λ (p : Piece). Some (record { line = t.line; piece = p } ∷ ts)) (sym (piece_is (piece.Word w) t.piece e))
 
@@ -55,10 +55,10 @@ is_nothing_or (statement.Parameter line name v) tail one = absurd (let never : f
 is_nothing_or s tail one = absurd (let never : true ≡ false = one in cc)
 
 begins_end : Word → Type 0
-begins_end w = (rest : List Token) → ends_behind w rest ≡ begins (piece.Word word.End) (Some rest)
+begins_end w = (rest : List Token) → ends_behind w rest ≡ piece_begins (piece.Word word.End) (Some rest)
 
 tail_as : (old : Parser) (scope : Scope) (depth : ℕ) (w : Word) (s : Statement) → (w ≡ word.End → ⊥) → begins_end w
-    → (old.fault ≡ None → begins (piece.Word w) (Some old.rest.now) ≡ true) → (Begins scope depth w s → is_tail s ≡ true)
+    → (old.fault ≡ None → piece_begins (piece.Word w) (Some old.rest.now) ≡ true) → (Begins scope depth w s → is_tail s ≡ true)
     → IsAs (one_part scope depth w) (tail_part scope depth) old s s
 unfolding begins_end
 tail_as old scope depth w s other ends_so there tail_so = record {
@@ -68,16 +68,16 @@ tail_as old scope depth w s other ends_so there tail_so = record {
 }
   where
     by_one : (one : Bool) (x : Statement) (rest : List Token) → is_one x ≡ one → old.fault ≡ None → MayTail scope depth x → after_statement x (Some old.rest.now) ≡ Some rest
-        → begins (piece.Word word.End) (Some rest) ≡ true → Begins scope depth w x
+        → piece_begins (piece.Word word.End) (Some rest) ≡ true → Begins scope depth w x
     by_one true x rest one sound may e ends =
-        record { one = one; begins = same_begin (first_word x) w old.rest.now (one_begins x one old.rest.now rest e) (there sound); obeys = may.obeys }
+        record { one = one; piece_begins = same_begin (first_word x) w old.rest.now (one_begins x one old.rest.now rest e) (there sound); obeys = may.obeys }
     by_one false x rest one sound may e ends =
         let f = subst (λ (z : Statement). after_statement z (Some old.rest.now) ≡ Some rest) (is_nothing_or x may.tail one) e in
         let same = same_Some old.rest.now rest f in
-        absurd (other (same_begin w word.End rest (ap (λ (xs : List Token). begins (piece.Word w) (Some xs)) (sym same) ∙ there sound) ends))
+        absurd (other (same_begin w word.End rest (ap (λ (xs : List Token). piece_begins (piece.Word w) (Some xs)) (sym same) ∙ there sound) ends))
 
     back : (x : Statement) (rest : List Token) → old.fault ≡ None → MayTail scope depth x → after_statement x (Some old.rest.now) ≡ Some rest
-        → begins (piece.Word word.End) (Some rest) ≡ true
+        → piece_begins (piece.Word word.End) (Some rest) ≡ true
         → (y : Statement) × Begins scope depth w y × (after_statement y (Some old.rest.now) ≡ Some rest) × (ends_behind w rest ≡ true) × (Unit {0} → Unit {0})
     back x rest sound may e ends = (x, by_one (is_one x) x rest refl sound may e ends, e, ends_so rest ∙ ends, λ same. tt)
 
@@ -91,12 +91,12 @@ unfolding is_tail
 else_is_tail scope depth s may =
     let i = is_else s may.one may.begins in ap is_tail i.is
 
-pub elif_as : (old : Parser) (depth : ℕ) (s : Statement) → (old.fault ≡ None → begins (piece.Word word.Elif) (Some old.rest.now) ≡ true)
+pub elif_as : (old : Parser) (depth : ℕ) (s : Statement) → (old.fault ≡ None → piece_begins (piece.Word word.Elif) (Some old.rest.now) ≡ true)
     → IsAs (one_part (scope_of old) depth word.Elif) (tail_part (scope_of old) depth) old s s
 unfolding begins_end
 elif_as old depth s there = tail_as old (scope_of old) depth word.Elif s (λ e. let never : word.Elif ≡ word.End = e in cc) (λ rest. refl) there (elif_is_tail (scope_of old) depth s)
 
-pub else_as : (old : Parser) (depth : ℕ) (s : Statement) → (old.fault ≡ None → begins (piece.Word word.Else) (Some old.rest.now) ≡ true)
+pub else_as : (old : Parser) (depth : ℕ) (s : Statement) → (old.fault ≡ None → piece_begins (piece.Word word.Else) (Some old.rest.now) ≡ true)
     → IsAs (one_part (scope_of old) depth word.Else) (tail_part (scope_of old) depth) old s s
 unfolding begins_end
 else_as old depth s there = tail_as old (scope_of old) depth word.Else s (λ e. let never : word.Else ≡ word.End = e in cc) (λ rest. refl) there (else_is_tail (scope_of old) depth s)
@@ -109,47 +109,47 @@ not_so false e = refl
 
 pub otherwise_back : (old : Parser) (depth line : ℕ) (made : Statement) (w : Statement) (rest : List Token) → old.fault ≡ None → Begins (scope_of old) depth word.Else w
     → after_statement w (put_back line word.Else (Some old.rest.now)) ≡ Some rest → ends_behind word.Else rest ≡ true
-    → (x : Unit {0} × Statement) × (Unit {0} × MayStatements (scope_of old) depth x.1) × (after_statement x.1 (after piece.LineEnd (Some old.rest.now)) ≡ Some rest)
+    → (x : Unit {0} × Statement) × (Unit {0} × MayStatements (scope_of old) depth x.1) × (after_statement x.1 (after_piece piece.LineEnd (Some old.rest.now)) ≡ Some rest)
     × (ends_statements rest ≡ true) × Unit {0}
 otherwise_back old depth line made w rest sound may e ends =
     let i = is_else w may.one may.begins in
     let o = subst (Obeys (scope_of old) depth) i.is may.obeys in
     let f = subst (λ (z : Statement). after_statement z (put_back line word.Else (Some old.rest.now)) ≡ Some rest) i.is e in
-    let g = only_left (not (is_branch i.inner)) (after_statement i.inner (after piece.LineEnd (Some old.rest.now))) rest f in
+    let g = only_left (not (is_branch i.inner)) (after_statement i.inner (after_piece piece.LineEnd (Some old.rest.now))) rest f in
     ((tt, i.inner), (tt, record { plain = not_so (is_branch i.inner) g.0; obeys = o }), g.1, end_ends rest ends, tt)
 
 pub otherwise_so : (old : Parser) (depth line : ℕ) (inner made : Statement) → IsOtherwise inner made → (rest : List Token)
-    → after_statement inner (after piece.LineEnd (Some old.rest.now)) ≡ Some rest → Unit {0} × MayStatements (scope_of old) depth inner
+    → after_statement inner (after_piece piece.LineEnd (Some old.rest.now)) ≡ Some rest → Unit {0} × MayStatements (scope_of old) depth inner
     → (after_statement made (put_back line word.Else (Some old.rest.now)) ≡ Some rest) × Begins (scope_of old) depth word.Else made
 otherwise_so old depth line inner made m rest e may = (
   ap (λ (z : Statement). after_statement z (put_back line word.Else (Some old.rest.now))) m.is
-      ∙ (ap (λ (v : Statement). only (not (is_branch v)) (after_statement v (after piece.LineEnd (Some old.rest.now)))) m.holds
-      ∙ (ap (λ (b : Bool). only (not b) (after_statement inner (after piece.LineEnd (Some old.rest.now)))) may.1.plain ∙ e)),
-  subst (Begins (scope_of old) depth word.Else) (sym m.is) (record { one = refl; begins = refl; obeys = subst (Obeys (scope_of old) depth) (sym m.holds) may.1.obeys }),
+      ∙ (ap (λ (v : Statement). only (not (is_branch v)) (after_statement v (after_piece piece.LineEnd (Some old.rest.now)))) m.holds
+      ∙ (ap (λ (b : Bool). only (not b) (after_statement inner (after_piece piece.LineEnd (Some old.rest.now)))) may.1.plain ∙ e)),
+  subst (Begins (scope_of old) depth word.Else) (sym m.is) (record { one = refl; piece_begins = refl; obeys = subst (Obeys (scope_of old) depth) (sym m.holds) may.1.obeys }),
 )
 
 -- ---- a branch
 
-abbrev pub branch_parts : Scope → ℕ → Bool → Part ((((Expression × Unit {0}) × Statement) × Statement) × Unit {0})
+abbrev pub branch_parts : Scope → ℕ → Bool → SyntaxPart ((((Expression × Unit {0}) × Statement) × Statement) × Unit {0})
 branch_parts scope depth chained =
     then_part (then_part (then_part (then_part (condition_part scope.in_parameter) (piece_part piece.LineEnd)) (statements_part scope depth)) (tail_part scope depth)) (end_part chained)
 
 -- a branch from its condition on
 abbrev pub behind_condition : Bool → Expression → Statement → Statement → Rest → Rest
-behind_condition chained c a b rest = after_end chained (after_statement b (after_statement a (after piece.LineEnd (after_condition c rest))))
+behind_condition chained c a b rest = after_end chained (after_statement b (after_statement a (after_piece piece.LineEnd (after_condition c rest))))
 
 condition_none : (chained : Bool) (c : Expression) (a b : Statement) → behind_condition chained c a b None ≡ None
 condition_none chained c a b =
     none_of (after_end chained) (end_strict chained) _ (none_of (after_statement b) (statement_strict b) _ (none_of (after_statement a) (statement_strict a) _ (after_of piece.LineEnd _ (condition_strict c))))
 
-branch_end : (chained : Bool) (rest : List Token) → ends_behind (branch_word chained) rest ≡ true → (not chained || begins (piece.Word word.End) (Some rest)) ≡ true
+branch_end : (chained : Bool) (rest : List Token) → ends_behind (branch_word chained) rest ≡ true → (not chained || piece_begins (piece.Word word.End) (Some rest)) ≡ true
 branch_end true rest e = e
 branch_end false rest e = refl
 
 pub when_back : (old : Parser) (depth line : ℕ) (chained : Bool) (w : Statement) (rest : List Token) → old.fault ≡ None → Begins (scope_of old) depth (branch_word chained) w
     → after_statement w (put_back line (branch_word chained) (Some old.rest.now)) ≡ Some rest → ends_behind (branch_word chained) rest ≡ true
-    → (x : (((Expression × Unit {0}) × Statement) × Statement) × Unit {0}) × Part.May (branch_parts (scope_of old) (depth - 1) chained) x
-    × (behind_condition chained x.0.0.0.0 x.0.0.1 x.0.1 (Some old.rest.now) ≡ Some rest) × ((not chained || begins (piece.Word word.End) (Some rest)) ≡ true) × Unit {0}
+    → (x : (((Expression × Unit {0}) × Statement) × Statement) × Unit {0}) × SyntaxPart.May (branch_parts (scope_of old) (depth - 1) chained) x
+    × (behind_condition chained x.0.0.0.0 x.0.0.1 x.0.1 (Some old.rest.now) ≡ Some rest) × ((not chained || piece_begins (piece.Word word.End) (Some rest)) ≡ true) × Unit {0}
 when_back old depth line chained w rest sound may e ends =
     let i = is_when chained w may.one may.begins in
     let o = subst (Obeys (scope_of old) depth) i.is may.obeys in
@@ -169,7 +169,7 @@ when_none old depth line chained w none may =
     let low : 1 ≤ depth = o.0 in omega (arith, low, none)
 
 pub when_so : (old : Parser) (depth line : ℕ) (chained : Bool) (c : Expression) (a b made : Statement) → 1 ≤ depth → IsWhen line chained c a b made → (rest : List Token)
-    → behind_condition chained c a b (Some old.rest.now) ≡ Some rest → Part.May (branch_parts (scope_of old) (depth - 1) chained) ((((c, tt), a), b), tt)
+    → behind_condition chained c a b (Some old.rest.now) ≡ Some rest → SyntaxPart.May (branch_parts (scope_of old) (depth - 1) chained) ((((c, tt), a), b), tt)
     → (after_statement made (put_back line (branch_word chained) (Some old.rest.now)) ≡ Some rest) × Begins (scope_of old) depth (branch_word chained) made
 when_so old depth line chained c a b made deep m rest e may = (
   ap (λ (z : Statement). after_statement z start) m.is
@@ -178,7 +178,7 @@ when_so old depth line chained c a b made deep m rest e may = (
       ∙ (ap (λ (k : Bool). only k (behind_condition chained c a b begun)) (both_true (not (is_branch a)) (is_tail b) (ap not may.0.0.1.plain) may.0.1.tail)
       ∙ (ap (behind_condition chained c a b) (start_same line (branch_word chained) old.rest.now) ∙ e)))),
   subst (Begins (scope_of old) depth (branch_word chained)) (sym m.is)
-      (record { one = refl; begins = refl; obeys = (deep, may.0.0.0.0, subst (Obeys (scope_of old) (depth - 1)) (sym m.first_holds) may.0.0.1.obeys, subst (Obeys (scope_of old) (depth - 1)) (sym m.second_holds) may.0.1.obeys) }),
+      (record { one = refl; piece_begins = refl; obeys = (deep, may.0.0.0.0, subst (Obeys (scope_of old) (depth - 1)) (sym m.first_holds) may.0.0.1.obeys, subst (Obeys (scope_of old) (depth - 1)) (sym m.second_holds) may.0.1.obeys) }),
 )
   where
     start : Rest
@@ -190,25 +190,25 @@ when_so old depth line chained c a b made deep m rest e may = (
 condition_test : Piece → Bool
 condition_test p = is_below (joint_of p) 0
 
-pub line_end_condition : (here rest : List Token) → after piece.LineEnd (Some here) ≡ Some rest → stops 0 here ≡ true
+pub line_end_condition : (here rest : List Token) → after_piece piece.LineEnd (Some here) ≡ Some rest → stops 0 here ≡ true
 unfolding condition_test
 line_end_condition here rest e = before_piece (stops 0) condition_test (stops_tests 0) piece.LineEnd refl here rest e
 
-pub end_behind : (chained : Bool) (here rest : List Token) → after_end chained (Some here) ≡ Some rest → (not chained || begins (piece.Word word.End) (Some rest)) ≡ true
-    → begins (piece.Word word.End) (Some here) ≡ true
-end_behind true here rest e ends = ap (λ (xs : List Token). begins (piece.Word word.End) (Some xs)) (same_Some here rest e) ∙ ends
+pub end_behind : (chained : Bool) (here rest : List Token) → after_end chained (Some here) ≡ Some rest → (not chained || piece_begins (piece.Word word.End) (Some rest)) ≡ true
+    → piece_begins (piece.Word word.End) (Some here) ≡ true
+end_behind true here rest e ends = ap (λ (xs : List Token). piece_begins (piece.Word word.End) (Some xs)) (same_Some here rest e) ∙ ends
 end_behind false here rest e ends =
-    let b = left_before (after piece.LineEnd) refl (after (piece.Word word.End) (Some here)) rest e in
-    before_piece (λ xs. begins (piece.Word word.End) (Some xs)) (is_piece (piece.Word word.End)) (λ t ts. refl) (piece.Word word.End) refl here b.0 b.1
+    let b = left_before (after_piece piece.LineEnd) refl (after_piece (piece.Word word.End) (Some here)) rest e in
+    before_piece (λ xs. piece_begins (piece.Word word.End) (Some xs)) (is_piece (piece.Word word.End)) (λ t ts. refl) (piece.Word word.End) refl here b.0 b.1
 
 -- ---- a statement that comes next
 
-pub next_begins : (w : Word) (fault : Option ParseReason) (here : List Token) → fault ≡ None → next_of fault here ≡ piece.Word w → begins (piece.Word w) (Some here) ≡ true
+pub next_begins : (w : Word) (fault : Option ParseReason) (here : List Token) → fault ≡ None → next_of fault here ≡ piece.Word w → piece_begins (piece.Word w) (Some here) ≡ true
 next_begins w (Some why) here sound e = absurd (let never : piece.TextEnd ≡ piece.Word w = e in cc)
 next_begins w None [] sound e = absurd (let never : piece.TextEnd ≡ piece.Word w = e in cc)
 next_begins w None (t ∷ ts) sound e = begins_so t ts w e
 
-pub next_shorter : (w : Word) (fault : Option ParseReason) (here : List Token) → next_of fault here ≡ piece.Word w → length (behind here) < length here
+pub next_shorter : (w : Word) (fault : Option ParseReason) (here : List Token) → next_of fault here ≡ piece.Word w → length (behind_next here) < length here
 next_shorter w (Some why) here e = absurd (let never : piece.TextEnd ≡ piece.Word w = e in cc)
 next_shorter w None [] e = absurd (let never : piece.TextEnd ≡ piece.Word w = e in cc)
 next_shorter w None (t ∷ ts) e = omega arith
@@ -222,20 +222,20 @@ first_simple w first a b = refl
 
 -- ---- a part that depends on what was read before it
 
-abbrev pub then_on : {X Y Z : Type 0} → Part X → Part Y → (Z → Y → Type 0) → (X → Z) → Part (X × Y)
+abbrev pub then_on : {X Y Z : Type 0} → SyntaxPart X → SyntaxPart Y → (Z → Y → Type 0) → (X → Z) → SyntaxPart (X × Y)
 then_on one base M key = record {
-  behind = λ both rest. base.behind both.1 (one.behind both.0 rest);
+  behind_next = λ both rest. base.behind both.1 (one.behind both.0 rest);
   May = λ both. one.May both.0 × M (key both.0) both.1;
   Same = λ a b. one.Same a.0 b.0 × base.Same a.1 b.1;
   ends = base.ends;
 }
 
-abbrev pub restricted : {Y : Type 0} → Part Y → (Y → Type 0) → Part Y
-restricted base May = record { behind = base.behind; May = May; Same = base.Same; ends = base.ends }
+abbrev pub restricted : {Y : Type 0} → SyntaxPart Y → (Y → Type 0) → SyntaxPart Y
+restricted base May = record { behind_next = base.behind; May = May; Same = base.Same; ends = base.ends }
 
-pub reads_then_on : {X Y Z : Type 0} {one : Part X} (base : Part Y) (M : Z → Y → Type 0) {old mid new : Parser} {a : X} {b : Y} (key : X → Z)
+pub reads_then_on : {X Y Z : Type 0} {one : SyntaxPart X} (base : SyntaxPart Y) (M : Z → Y → Type 0) {old mid new : Parser} {a : X} {b : Y} (key : X → Z)
     → ((y : Y) → base.behind y None ≡ None) → ((y : Y) (here rest : List Token) → base.behind y (Some here) ≡ Some rest → base.ends rest ≡ true → one.ends here ≡ true)
-    → ((x : X) → one.Same a x → key x ≡ key a) → Reads one old mid a → Reads (restricted base (M (key a))) mid new b → Reads (then_on one base M key) old new (a, b)
+    → ((x : X) → one.Same a x → key x ≡ key a) → HasRead one old mid a → HasRead (restricted base (M (key a))) mid new b → HasRead (then_on one base M key) old new (a, b)
 reads_then_on {X} {Y} {Z} {one} base M {old} {mid} {new} {a} {b} key strict follows alike r s = record {
   goes = keeps_on r.goes s.goes;
   finds = finds;
@@ -259,24 +259,24 @@ reads_then_on {X} {Y} {Z} {one} base M {old} {mid} {new} {a} {b} key strict foll
 
 -- ---- a loop
 
-abbrev pub loop_head_parts : Scope → Part ((ℕ × Span) × Unit {0})
+abbrev pub loop_head_parts : Scope → SyntaxPart ((ℕ × Span) × Unit {0})
 loop_head_parts scope = then_part (then_part (variable_part scope) (span_part scope.in_parameter)) (piece_part piece.LineEnd)
 
 abbrev pub name_read : (ℕ × Span) × Unit {0} → ℕ
 name_read x = x.0.0
 
-abbrev pub loop_body_parts : Scope → ℕ → Part (((ℕ × Span) × Unit {0}) × Statement)
+abbrev pub loop_body_parts : Scope → ℕ → SyntaxPart (((ℕ × Span) × Unit {0}) × Statement)
 loop_body_parts scope depth = then_on (loop_head_parts scope) (statements_part scope depth) (λ k. MayStatements (within_loop k scope) depth) name_read
 
-abbrev pub loop_parts : Scope → ℕ → Part ((((ℕ × Span) × Unit {0}) × Statement) × Unit {0})
+abbrev pub loop_parts : Scope → ℕ → SyntaxPart ((((ℕ × Span) × Unit {0}) × Statement) × Unit {0})
 loop_parts scope depth = then_part (loop_body_parts scope depth) (end_part false)
 
 abbrev pub behind_span : Span → Rest → Rest
-behind_span span rest = after_gap (pos span.step) (after_value span.last (after (piece.Word word.To) (after_value span.first rest)))
+behind_span span rest = after_gap (pos span.step) (after_value span.last (after_piece (piece.Word word.To) (after_value span.first rest)))
 
 -- a loop from its variable on
 abbrev pub behind_word : ℕ → Span → Statement → Rest → Rest
-behind_word k span a rest = after_end false (after_statement a (after piece.LineEnd (behind_span span (after piece.Equals (after (piece.Name k) rest)))))
+behind_word k span a rest = after_end false (after_statement a (after_piece piece.LineEnd (behind_span span (after_piece piece.Equals (after_piece (piece.Name k) rest)))))
 
 pub span_strict : (span : Span) → behind_span span None ≡ None
 span_strict span = none_of (λ z. after_gap (pos span.step) z) (gap_strict span.step) _ (value_of span.last _ (after_of (piece.Word word.To) _ (value_strict span.first)))
@@ -286,7 +286,7 @@ word_none k span a = none_of (after_end false) (end_strict false) _ (none_of (af
 
 pub repeat_back : (old : Parser) (depth line : ℕ) (w : Statement) (rest : List Token) → old.fault ≡ None → Begins (scope_of old) depth word.For w
     → after_statement w (put_back line word.For (Some old.rest.now)) ≡ Some rest → ends_behind word.For rest ≡ true
-    → (x : (((ℕ × Span) × Unit {0}) × Statement) × Unit {0}) × Part.May (loop_parts (scope_of old) (depth - 1)) x
+    → (x : (((ℕ × Span) × Unit {0}) × Statement) × Unit {0}) × SyntaxPart.May (loop_parts (scope_of old) (depth - 1)) x
     × (behind_word x.0.0.0.0 x.0.0.0.1 x.0.1 (Some old.rest.now) ≡ Some rest) × (true ≡ true) × Unit {0}
 repeat_back old depth line w rest sound may e ends =
     let i = is_loop w may.one may.begins in
@@ -308,7 +308,7 @@ repeat_none old depth w none may =
     let low : 1 ≤ depth = o.0 in omega (arith, low, none)
 
 pub repeat_so : (old : Parser) (depth line k : ℕ) (span : Span) (a made : Statement) → 1 ≤ depth → IsRepeat line k span a made → (rest : List Token)
-    → behind_word k span a (Some old.rest.now) ≡ Some rest → Part.May (loop_parts (scope_of old) (depth - 1)) ((((k, span), tt), a), tt)
+    → behind_word k span a (Some old.rest.now) ≡ Some rest → SyntaxPart.May (loop_parts (scope_of old) (depth - 1)) ((((k, span), tt), a), tt)
     → (after_statement made (put_back line word.For (Some old.rest.now)) ≡ Some rest) × Begins (scope_of old) depth word.For made
 repeat_so old depth line k span a made deep m rest e may = (
   ap (λ (z : Statement). after_statement z start) m.is
@@ -316,7 +316,7 @@ repeat_so old depth line k span a made deep m rest e may = (
       ∙ (ap (λ (b : Bool). only (not b) (behind_word k span a begun)) may.0.1.plain
       ∙ (ap (behind_word k span a) (start_same line word.For old.rest.now) ∙ e))),
   subst (Begins (scope_of old) depth word.For) (sym m.is)
-      (record { one = refl; begins = refl; obeys = (deep, may.0.0.0.0, may.0.0.0.1.first, may.0.0.0.1.last, may.0.0.0.1.step, subst (Obeys (within_loop k (scope_of old)) (depth - 1)) (sym m.holds) may.0.1.obeys) }),
+      (record { one = refl; piece_begins = refl; obeys = (deep, may.0.0.0.0, may.0.0.0.1.first, may.0.0.0.1.last, may.0.0.0.1.step, subst (Obeys (within_loop k (scope_of old)) (depth - 1)) (sym m.holds) may.0.1.obeys) }),
 )
   where
     start : Rest
@@ -333,7 +333,7 @@ end_as old = record { back = λ w rest sound may e ends. ((tt, tt), (tt, tt), e,
 -- ---- the statements of a loop
 
 pub body_read : {old pushed new : Parser} {s : Statement} (name depth : ℕ) → pushed ≡ record old { loops = pushed.loops } → pushed.loops.items ≡ old.loops.items ++ name ∷ []
-    → IsInside pushed new depth s → Reads (statements_part (within_loop name (scope_of old)) depth) old new s
+    → IsInside pushed new depth s → HasRead (statements_part (within_loop name (scope_of old)) depth) old new s
 body_read {old} {pushed} {new} {s} name depth frame items inner = record {
   goes = record {
     names = ap (λ (p : Parser). p.names.now) inner.frame ∙ (r.goes.names ∙ ap (λ (p : Parser). p.names.now) frame);
@@ -349,7 +349,7 @@ body_read {old} {pushed} {new} {s} name depth frame items inner = record {
   may = λ sound. subst (λ (k : Scope). MayStatements k depth s) scope_so (r.may (sym fault_new ∙ sound));
 }
   where
-    r : Reads (statements_part (scope_of pushed) depth) pushed inner.mid s
+    r : HasRead (statements_part (scope_of pushed) depth) pushed inner.mid s
     r = inner.reads
 
     fault_old : pushed.fault ≡ old.fault
@@ -374,8 +374,8 @@ body_read {old} {pushed} {new} {s} name depth frame items inner = record {
     to_new rest (inr (there, a)) = inr (record { sound = fault_new ∙ there.sound; left = rest_new ∙ there.left }, a)
 
 -- want of memory is noted before a part is read
-pub no_memory : {X : Type 0} {part : Part X} {old pushed new : Parser} {a : X} → pushed ≡ record old { loops = pushed.loops } → pushed.loops.items ≡ old.loops.items
-    → new ≡ record pushed { fault = noted pushed.fault Memory } → Reads part old new a
+pub no_memory : {X : Type 0} {part : SyntaxPart X} {old pushed new : Parser} {a : X} → pushed ≡ record old { loops = pushed.loops } → pushed.loops.items ≡ old.loops.items
+    → new ≡ record pushed { fault = first_noted pushed.fault Memory } → HasRead part old new a
 no_memory {X} {part} {old} {pushed} {new} {a} frame items is = record {
   goes = record {
     names = after_fault.names ∙ ap (λ (p : Parser). p.names.now) frame;
@@ -386,7 +386,7 @@ no_memory {X} {part} {old} {pushed} {new} {a} frame items is = record {
     sticks = λ why e. after_fault.sticks why (ap (λ (p : Parser). p.fault) frame ∙ e);
   };
   finds = λ x rest sound e may ends.
-      inl (ap (λ (p : Parser). p.fault) is ∙ ap (λ (f : Option ParseReason). noted f Memory) (ap (λ (p : Parser). p.fault) frame ∙ sound));
+      inl (ap (λ (p : Parser). p.fault) is ∙ ap (λ (f : Option ParseReason). first_noted f Memory) (ap (λ (p : Parser). p.fault) frame ∙ sound));
   stands = λ sound. absurd (never_failed pushed new Memory is sound);
   may = λ sound. absurd (never_failed pushed new Memory is sound);
 }
@@ -396,8 +396,8 @@ no_memory {X} {part} {old} {pushed} {new} {a} frame items is = record {
 
 -- neither an `elif` nor an `else` comes next
 pub tail_none : {old mid new : Parser} (scope : Scope) (depth : ℕ) → mid ≡ old → new ≡ mid
-    → (old.fault ≡ None → begins (piece.Word word.Elif) (Some old.rest.now) ≡ false) → (mid.fault ≡ None → begins (piece.Word word.Else) (Some mid.rest.now) ≡ false)
-    → Reads (tail_part scope depth) old new statement.Nothing
+    → (old.fault ≡ None → piece_begins (piece.Word word.Elif) (Some old.rest.now) ≡ false) → (mid.fault ≡ None → piece_begins (piece.Word word.Else) (Some mid.rest.now) ≡ false)
+    → HasRead (tail_part scope depth) old new statement.Nothing
 unfolding is_tail
 tail_none {old} {mid} {new} scope depth same again no_elif no_else_mid = record {
   goes = keeps_same whole;
@@ -409,8 +409,8 @@ tail_none {old} {mid} {new} scope depth same again no_elif no_else_mid = record 
     whole : new ≡ old
     whole = again ∙ same
 
-    no_else : old.fault ≡ None → begins (piece.Word word.Else) (Some old.rest.now) ≡ false
-    no_else = subst (λ (p : Parser). p.fault ≡ None → begins (piece.Word word.Else) (Some p.rest.now) ≡ false) same no_else_mid
+    no_else : old.fault ≡ None → piece_begins (piece.Word word.Else) (Some old.rest.now) ≡ false
+    no_else = subst (λ (p : Parser). p.fault ≡ None → piece_begins (piece.Word word.Else) (Some p.rest.now) ≡ false) same no_else_mid
 
     by_form : (x : Statement) (rest : List Token) → old.fault ≡ None → is_tail x ≡ true → after_statement x (Some old.rest.now) ≡ Some rest → Finds new rest (Unit {0})
     by_form statement.Nothing rest sound tail e =

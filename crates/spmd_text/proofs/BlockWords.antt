@@ -11,8 +11,8 @@ use Rattle.spmd_text.specs.declared.piece.Piece.TheVariants as piece
 use Rattle.spmd_text.specs.declared.piece.Token.{Token}
 use Rattle.spmd_text.specs.Words.{code}
 use Rattle.spmd_text.specs.parts.Joints.{Place}
-use Rattle.spmd_text.specs.Spelling.{Rest, after, after_arguments, after_condition, after_end, after_gap, after_labels, after_statement, after_value, begins, branch_word, call_word, is_branch, is_piece, is_tail, on_line, only}
-use Rattle.spmd_text.specs.parts.Parts.{form_of}
+use Rattle.spmd_text.specs.Spelling.{Rest, after_piece, after_arguments, after_condition, after_end, after_gap, after_labels, after_statement, after_value, piece_begins, branch_word, call_word, is_branch, is_piece, is_tail, on_line, only}
+use Rattle.spmd_text.specs.parts.Parts.{syntax_form}
 use Rattle.spmd_text.specs.parts.Statements.{ends_statements, first_word, is_one}
 use Rattle.spmd_text.proofs.LeftOut.{gap_strict}
 use Rattle.spmd_text.proofs.NoStar.{left_before, only_left}
@@ -52,50 +52,50 @@ statement_strict (statement.Unreached line) = refl
 
 -- ---- the word that comes first
 
-pub begins_so : (t : Token) (ts : List Token) (w : Word) → t.piece ≡ piece.Word w → begins (piece.Word w) (Some (t ∷ ts)) ≡ true
+pub begins_so : (t : Token) (ts : List Token) (w : Word) → t.piece ≡ piece.Word w → piece_begins (piece.Word w) (Some (t ∷ ts)) ≡ true
 begins_so t ts w e = ap (is_piece (piece.Word w)) e ∙ eq-eqb (code (piece.Word w)) (code (piece.Word w)) refl
 
-start_first : (l : ℕ) (w : Word) (here between : List Token) → after (piece.Word w) (on_line l (Some here)) ≡ Some between → begins (piece.Word w) (Some here) ≡ true
+start_first : (l : ℕ) (w : Word) (here between : List Token) → after_piece (piece.Word w) (on_line l (Some here)) ≡ Some between → piece_begins (piece.Word w) (Some here) ≡ true
 start_first l w [] between e = absurd (none_some between e)
 start_first l w (t ∷ ts) between e = begins_so t ts w (start_left (nat_eq t.line l) t w ts between e).0
 
-pub start_begins : (F : Rest → Rest) → F None ≡ None → (l : ℕ) (w : Word) (here rest : List Token) → F (after (piece.Word w) (on_line l (Some here))) ≡ Some rest
-    → begins (piece.Word w) (Some here) ≡ true
+pub start_begins : (F : Rest → Rest) → F None ≡ None → (l : ℕ) (w : Word) (here rest : List Token) → F (after_piece (piece.Word w) (on_line l (Some here))) ≡ Some rest
+    → piece_begins (piece.Word w) (Some here) ≡ true
 start_begins F strict l w here rest e =
-    let b = left_before F strict (after (piece.Word w) (on_line l (Some here))) rest e in start_first l w here b.0 b.1
+    let b = left_before F strict (after_piece (piece.Word w) (on_line l (Some here))) rest e in start_first l w here b.0 b.1
 
-pub taken_begins : (p : Word) (here between : List Token) → after (piece.Word p) (Some here) ≡ Some between → begins (piece.Word p) (Some here) ≡ true
+pub taken_begins : (p : Word) (here between : List Token) → after_piece (piece.Word p) (Some here) ≡ Some between → piece_begins (piece.Word p) (Some here) ≡ true
 taken_begins p [] between e = absurd (none_some between e)
 taken_begins p (t ∷ ts) between e = (only_left (is_piece (piece.Word p) t.piece) (Some ts) between e).0
 
 -- a statement that stands here begins with its word
-pub one_begins : (s : Statement) → is_one s ≡ true → (here rest : List Token) → after_statement s (Some here) ≡ Some rest → begins (piece.Word (first_word s)) (Some here) ≡ true
+pub one_begins : (s : Statement) → is_one s ≡ true → (here rest : List Token) → after_statement s (Some here) ≡ Some rest → piece_begins (piece.Word (first_word s)) (Some here) ≡ true
 one_begins statement.Nothing one here rest e = absurd (let never : false ≡ true = one in cc)
 one_begins (statement.Sequence' p a q b) one here rest e = absurd (let never : false ≡ true = one in cc)
 one_begins (statement.Parameter line name v) one here rest e = absurd (let never : false ≡ true = one in cc)
 one_begins (statement.Assign line name v) one here rest e =
-    start_begins (λ z. after piece.LineEnd (after_value v (after piece.Equals (after (piece.Name name) z)))) (after_of piece.LineEnd _ (value_strict v)) line word.Let here rest e
+    start_begins (λ z. after_piece piece.LineEnd (after_value v (after_piece piece.Equals (after_piece (piece.Name name) z)))) (after_of piece.LineEnd _ (value_strict v)) line word.Let here rest e
 one_begins (statement.When' line chained c p a q b) one here rest e =
-    start_begins (λ z. only (not (is_branch a) && is_tail b) (after_end chained (after_statement b (after_statement a (after piece.LineEnd (after_condition c z))))))
+    start_begins (λ z. only (not (is_branch a) && is_tail b) (after_end chained (after_statement b (after_statement a (after_piece piece.LineEnd (after_condition c z))))))
     (only_of _ _ (end_of chained _ (none_of (after_statement b) (statement_strict b) _ (none_of (after_statement a) (statement_strict a) _ (after_of piece.LineEnd _ (condition_strict c))))))
     line (branch_word chained) here rest e
 one_begins (statement.Otherwise' p a) one here rest e =
-    let inner = (only_left (not (is_branch a)) (after_statement a (after piece.LineEnd (after (piece.Word word.Else) (Some here)))) rest e).1 in
-    let second = left_before (after_statement a) (statement_strict a) (after piece.LineEnd (after (piece.Word word.Else) (Some here))) rest inner in
-    let first = left_before (after piece.LineEnd) refl (after (piece.Word word.Else) (Some here)) second.0 second.1 in
+    let inner = (only_left (not (is_branch a)) (after_statement a (after_piece piece.LineEnd (after_piece (piece.Word word.Else) (Some here)))) rest e).1 in
+    let second = left_before (after_statement a) (statement_strict a) (after_piece piece.LineEnd (after_piece (piece.Word word.Else) (Some here))) rest inner in
+    let first = left_before (after_piece piece.LineEnd) refl (after_piece (piece.Word word.Else) (Some here)) second.0 second.1 in
     taken_begins word.Else here first.0 first.1
 one_begins (statement.Repeat' line name first last step p a) one here rest e =
-    start_begins (λ z. only (not (is_branch a)) (after_end false (after_statement a (after piece.LineEnd (after_gap (pos step) (after_value last (after (piece.Word word.To) (after_value first (after piece.Equals (after (piece.Name name) z))))))))))
+    start_begins (λ z. only (not (is_branch a)) (after_end false (after_statement a (after_piece piece.LineEnd (after_gap (pos step) (after_value last (after_piece (piece.Word word.To) (after_value first (after_piece piece.Equals (after_piece (piece.Name name) z))))))))))
     (only_of _ _ (end_of false _ (none_of (after_statement a) (statement_strict a) _ (after_of piece.LineEnd _ (gap_of step _ (value_of last _ (after_of (piece.Word word.To) _ (value_strict first))))))))
     line word.For here rest e
 one_begins (statement.Call line c) one here rest e =
-    start_begins (λ z. after piece.LineEnd (after_arguments c z)) (after_of piece.LineEnd _ (arguments_strict c)) line (call_word c) here rest e
+    start_begins (λ z. after_piece piece.LineEnd (after_arguments c z)) (after_of piece.LineEnd _ (arguments_strict c)) line (call_word c) here rest e
 one_begins (statement.WaitAll line requests) one here rest e =
-    start_begins (λ z. after piece.LineEnd (after_labels requests z)) (after_of piece.LineEnd _ (labels_strict requests)) line word.Waitall here rest e
-one_begins (statement.Unreached line) one here rest e = start_begins (λ z. after piece.LineEnd z) refl line word.Error here rest e
+    start_begins (λ z. after_piece piece.LineEnd (after_labels requests z)) (after_of piece.LineEnd _ (labels_strict requests)) line word.Waitall here rest e
+one_begins (statement.Unreached line) one here rest e = start_begins (λ z. after_piece piece.LineEnd z) refl line word.Error here rest e
 
 -- one word comes first
-pub same_begin : (v w : Word) (here : List Token) → begins (piece.Word v) (Some here) ≡ true → begins (piece.Word w) (Some here) ≡ true → v ≡ w
+pub same_begin : (v w : Word) (here : List Token) → piece_begins (piece.Word v) (Some here) ≡ true → piece_begins (piece.Word w) (Some here) ≡ true → v ≡ w
 same_begin v w [] e f = absurd (let never : false ≡ true = e in cc)
 same_begin v w (t ∷ ts) e f = word_same v w (sym (piece_is (piece.Word v) t.piece e) ∙ piece_is (piece.Word w) t.piece f)
 
@@ -111,7 +111,7 @@ unfolding is_branch_word
 branch_words true = refl
 branch_words false = refl
 
-no_branch_call : (chained : Bool) → form_of (branch_word chained) ≡ None
+no_branch_call : (chained : Bool) → syntax_form (branch_word chained) ≡ None
 no_branch_call true = refl
 no_branch_call false = refl
 
@@ -198,17 +198,17 @@ pub or_right : (a b : Bool) → b ≡ true → (a || b) ≡ true
 or_right true b e = refl
 or_right false b e = e
 
-pub end_ends : (rest : List Token) → begins (piece.Word word.End) (Some rest) ≡ true → ends_statements rest ≡ true
-end_ends rest e = or_left _ _ (or_left (begins (piece.Word word.End) (Some rest)) (begins (piece.Word word.Else) (Some rest)) e)
+pub end_ends : (rest : List Token) → piece_begins (piece.Word word.End) (Some rest) ≡ true → ends_statements rest ≡ true
+end_ends rest e = or_left _ _ (or_left (piece_begins (piece.Word word.End) (Some rest)) (piece_begins (piece.Word word.Else) (Some rest)) e)
 
-pub else_ends : (rest : List Token) → begins (piece.Word word.Else) (Some rest) ≡ true → ends_statements rest ≡ true
-else_ends rest e = or_left _ _ (or_right (begins (piece.Word word.End) (Some rest)) (begins (piece.Word word.Else) (Some rest)) e)
+pub else_ends : (rest : List Token) → piece_begins (piece.Word word.Else) (Some rest) ≡ true → ends_statements rest ≡ true
+else_ends rest e = or_left _ _ (or_right (piece_begins (piece.Word word.End) (Some rest)) (piece_begins (piece.Word word.Else) (Some rest)) e)
 
-pub elif_ends : (rest : List Token) → begins (piece.Word word.Elif) (Some rest) ≡ true → ends_statements rest ≡ true
-elif_ends rest e = or_right _ _ (or_left (begins (piece.Word word.Elif) (Some rest)) (begins piece.TextEnd (Some rest)) e)
+pub elif_ends : (rest : List Token) → piece_begins (piece.Word word.Elif) (Some rest) ≡ true → ends_statements rest ≡ true
+elif_ends rest e = or_right _ _ (or_left (piece_begins (piece.Word word.Elif) (Some rest)) (piece_begins piece.TextEnd (Some rest)) e)
 
 -- statements end before a branch behind them, or before what stands behind it
-pub tail_ends : (s : Statement) (here rest : List Token) → is_tail s ≡ true → after_statement s (Some here) ≡ Some rest → begins (piece.Word word.End) (Some rest) ≡ true
+pub tail_ends : (s : Statement) (here rest : List Token) → is_tail s ≡ true → after_statement s (Some here) ≡ Some rest → piece_begins (piece.Word word.End) (Some rest) ≡ true
     → ends_statements here ≡ true
 unfolding is_tail
 tail_ends statement.Nothing here rest tail e ends = ap ends_statements (same_Some here rest e) ∙ end_ends rest ends

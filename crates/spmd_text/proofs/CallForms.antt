@@ -12,17 +12,17 @@ use Rattle.spmd_text.specs.declared.calls.Form.TheVariants as form
 use Rattle.spmd_text.specs.declared.piece.Word.TheVariants as word
 use Rattle.spmd_text.specs.declared.piece.Piece.TheVariants as piece
 use Rattle.spmd_text.specs.declared.piece.Token.{Token}
-use Rattle.spmd_text.specs.Spelling.{after_arguments, after_communicator, after_group, after_root, begins, has_root, is_rooted, only, same}
-use Rattle.spmd_text.specs.parts.Parts.{Part, arguments_part, form_of_call, group_part, label_part, optional_part, piece_part, request_part, root_part, then_part, value_part, wild_part}
+use Rattle.spmd_text.specs.Spelling.{after_arguments, after_communicator, after_group, after_root, piece_begins, has_root, is_rooted, only, same}
+use Rattle.spmd_text.specs.parts.Parts.{SyntaxPart, arguments_part, form_of_call, group_part, label_part, optional_part, piece_part, request_part, root_part, then_part, value_part, wild_part}
 use Rattle.spmd_text.specs.Rules.{IfThere, MayCall, MayGroup, MayValue}
 use Rattle.spmd_text.proofs.NoStar.{only_left}
 use Rattle.spmd_text.proofs.Parts.{IsAs, ended}
 use Rattle.spmd_text.proofs.Following.{communicator_ends, label_ends}
 
-abbrev pub comm_part : Bool → Part (Option Expression)
+abbrev pub comm_part : Bool → SyntaxPart (Option Expression)
 comm_part flag = optional_part flag word.Comm
 
-abbrev pub comma_part : Part (Unit {0})
+abbrev pub comma_part : SyntaxPart (Unit {0})
 comma_part = piece_part piece.Comma
 
 -- a send of this mode, started or not
@@ -180,8 +180,8 @@ pub send_as : (old : Parser) (mode : Mode) (started : Bool) (request : Option La
 send_as old mode started request d t c = record { back = back; stands = λ rest e may. e; may = λ m. (ap (form.Send mode) m.0.0.0.0.0, (m.0.0.0.0.1, m.0.0.0.1, m.0.1, m.1)) }
   where
     back : (w : Arguments) (rest : List Token) → old.fault ≡ None → (form_of_call w ≡ (form.Send mode started)) × MayCall old.in_parameter old.names.now w
-        → after_arguments w (Some old.rest.now) ≡ Some rest → begins piece.LineEnd (Some rest) ≡ true
-        → (x : _) × Part.May (then_part (then_part (then_part (then_part (request_part old.in_parameter old.names.now started) (value_part old.in_parameter)) (comma_part)) (value_part old.in_parameter)) (comm_part old.in_parameter)) x × (Part.behind (then_part (then_part (then_part (then_part (request_part old.in_parameter old.names.now started) (value_part old.in_parameter)) (comma_part)) (value_part old.in_parameter)) (comm_part old.in_parameter)) x (Some old.rest.now) ≡ Some rest) × (Part.ends (then_part (then_part (then_part (then_part (request_part old.in_parameter old.names.now started) (value_part old.in_parameter)) (comma_part)) (value_part old.in_parameter)) (comm_part old.in_parameter)) rest ≡ true) × (Part.Same (then_part (then_part (then_part (then_part (request_part old.in_parameter old.names.now started) (value_part old.in_parameter)) (comma_part)) (value_part old.in_parameter)) (comm_part old.in_parameter)) ((((request, d), tt), t), c) x → Unit {0})
+        → after_arguments w (Some old.rest.now) ≡ Some rest → piece_begins piece.LineEnd (Some rest) ≡ true
+        → (x : _) × SyntaxPart.May (then_part (then_part (then_part (then_part (request_part old.in_parameter old.names.now started) (value_part old.in_parameter)) (comma_part)) (value_part old.in_parameter)) (comm_part old.in_parameter)) x × (SyntaxPart.behind (then_part (then_part (then_part (then_part (request_part old.in_parameter old.names.now started) (value_part old.in_parameter)) (comma_part)) (value_part old.in_parameter)) (comm_part old.in_parameter)) x (Some old.rest.now) ≡ Some rest) × (SyntaxPart.ends (then_part (then_part (then_part (then_part (request_part old.in_parameter old.names.now started) (value_part old.in_parameter)) (comma_part)) (value_part old.in_parameter)) (comm_part old.in_parameter)) rest ≡ true) × (SyntaxPart.Same (then_part (then_part (then_part (then_part (request_part old.in_parameter old.names.now started) (value_part old.in_parameter)) (comma_part)) (value_part old.in_parameter)) (comm_part old.in_parameter)) ((((request, d), tt), t), c) x → Unit {0})
     back w rest sound may e ends =
         let s = is_send mode started w may.0 in
         let m = subst (MayCall old.in_parameter old.names.now) s.is may.1 in
@@ -192,8 +192,8 @@ pub receive_as : (old : Parser) (started : Bool) (request : Option LabelForm) (s
 receive_as old started request s t c = record { back = back; stands = λ rest e may. e; may = λ m. (ap form.Receive m.0.0.0.0.0, (m.0.0.0.0.1, m.0.0.0.1, m.0.1, m.1)) }
   where
     back : (w : Arguments) (rest : List Token) → old.fault ≡ None → (form_of_call w ≡ (form.Receive started)) × MayCall old.in_parameter old.names.now w
-        → after_arguments w (Some old.rest.now) ≡ Some rest → begins piece.LineEnd (Some rest) ≡ true
-        → (x : _) × Part.May (then_part (then_part (then_part (then_part (request_part old.in_parameter old.names.now started) (wild_part old.in_parameter)) (comma_part)) (wild_part old.in_parameter)) (comm_part old.in_parameter)) x × (Part.behind (then_part (then_part (then_part (then_part (request_part old.in_parameter old.names.now started) (wild_part old.in_parameter)) (comma_part)) (wild_part old.in_parameter)) (comm_part old.in_parameter)) x (Some old.rest.now) ≡ Some rest) × (Part.ends (then_part (then_part (then_part (then_part (request_part old.in_parameter old.names.now started) (wild_part old.in_parameter)) (comma_part)) (wild_part old.in_parameter)) (comm_part old.in_parameter)) rest ≡ true) × (Part.Same (then_part (then_part (then_part (then_part (request_part old.in_parameter old.names.now started) (wild_part old.in_parameter)) (comma_part)) (wild_part old.in_parameter)) (comm_part old.in_parameter)) ((((request, s), tt), t), c) x → Unit {0})
+        → after_arguments w (Some old.rest.now) ≡ Some rest → piece_begins piece.LineEnd (Some rest) ≡ true
+        → (x : _) × SyntaxPart.May (then_part (then_part (then_part (then_part (request_part old.in_parameter old.names.now started) (wild_part old.in_parameter)) (comma_part)) (wild_part old.in_parameter)) (comm_part old.in_parameter)) x × (SyntaxPart.behind (then_part (then_part (then_part (then_part (request_part old.in_parameter old.names.now started) (wild_part old.in_parameter)) (comma_part)) (wild_part old.in_parameter)) (comm_part old.in_parameter)) x (Some old.rest.now) ≡ Some rest) × (SyntaxPart.ends (then_part (then_part (then_part (then_part (request_part old.in_parameter old.names.now started) (wild_part old.in_parameter)) (comma_part)) (wild_part old.in_parameter)) (comm_part old.in_parameter)) rest ≡ true) × (SyntaxPart.Same (then_part (then_part (then_part (then_part (request_part old.in_parameter old.names.now started) (wild_part old.in_parameter)) (comma_part)) (wild_part old.in_parameter)) (comm_part old.in_parameter)) ((((request, s), tt), t), c) x → Unit {0})
     back w rest sound may e ends =
         let s = is_receive started w may.0 in
         let m = subst (MayCall old.in_parameter old.names.now) s.is may.1 in
@@ -204,8 +204,8 @@ pub matched_probe_as : (old : Parser) (handle : LabelForm) (s : Option Expressio
 matched_probe_as old handle s t c = record { back = back; stands = λ rest e may. e; may = λ m. (refl, (m.0.0.0.0.0, m.0.0.0.1, m.0.1, m.1)) }
   where
     back : (w : Arguments) (rest : List Token) → old.fault ≡ None → (form_of_call w ≡ form.MatchedProbe) × MayCall old.in_parameter old.names.now w
-        → after_arguments w (Some old.rest.now) ≡ Some rest → begins piece.LineEnd (Some rest) ≡ true
-        → (x : _) × Part.May (then_part (then_part (then_part (then_part (then_part (label_part old.in_parameter old.names.now) (comma_part)) (wild_part old.in_parameter)) (comma_part)) (wild_part old.in_parameter)) (comm_part old.in_parameter)) x × (Part.behind (then_part (then_part (then_part (then_part (then_part (label_part old.in_parameter old.names.now) (comma_part)) (wild_part old.in_parameter)) (comma_part)) (wild_part old.in_parameter)) (comm_part old.in_parameter)) x (Some old.rest.now) ≡ Some rest) × (Part.ends (then_part (then_part (then_part (then_part (then_part (label_part old.in_parameter old.names.now) (comma_part)) (wild_part old.in_parameter)) (comma_part)) (wild_part old.in_parameter)) (comm_part old.in_parameter)) rest ≡ true) × (Part.Same (then_part (then_part (then_part (then_part (then_part (label_part old.in_parameter old.names.now) (comma_part)) (wild_part old.in_parameter)) (comma_part)) (wild_part old.in_parameter)) (comm_part old.in_parameter)) (((((handle, tt), s), tt), t), c) x → Unit {0})
+        → after_arguments w (Some old.rest.now) ≡ Some rest → piece_begins piece.LineEnd (Some rest) ≡ true
+        → (x : _) × SyntaxPart.May (then_part (then_part (then_part (then_part (then_part (label_part old.in_parameter old.names.now) (comma_part)) (wild_part old.in_parameter)) (comma_part)) (wild_part old.in_parameter)) (comm_part old.in_parameter)) x × (SyntaxPart.behind (then_part (then_part (then_part (then_part (then_part (label_part old.in_parameter old.names.now) (comma_part)) (wild_part old.in_parameter)) (comma_part)) (wild_part old.in_parameter)) (comm_part old.in_parameter)) x (Some old.rest.now) ≡ Some rest) × (SyntaxPart.ends (then_part (then_part (then_part (then_part (then_part (label_part old.in_parameter old.names.now) (comma_part)) (wild_part old.in_parameter)) (comma_part)) (wild_part old.in_parameter)) (comm_part old.in_parameter)) rest ≡ true) × (SyntaxPart.Same (then_part (then_part (then_part (then_part (then_part (label_part old.in_parameter old.names.now) (comma_part)) (wild_part old.in_parameter)) (comma_part)) (wild_part old.in_parameter)) (comm_part old.in_parameter)) (((((handle, tt), s), tt), t), c) x → Unit {0})
     back w rest sound may e ends =
         let s = is_matched_probe w may.0 in
         let m = subst (MayCall old.in_parameter old.names.now) s.is may.1 in
@@ -216,8 +216,8 @@ pub probe_as : (old : Parser) (s : Option Expression) (t : Option Expression) (c
 probe_as old s t c = record { back = back; stands = λ rest e may. e; may = λ m. (refl, (m.0.0.0, m.0.1, m.1)) }
   where
     back : (w : Arguments) (rest : List Token) → old.fault ≡ None → (form_of_call w ≡ form.Probe) × MayCall old.in_parameter old.names.now w
-        → after_arguments w (Some old.rest.now) ≡ Some rest → begins piece.LineEnd (Some rest) ≡ true
-        → (x : _) × Part.May (then_part (then_part (then_part (wild_part old.in_parameter) (comma_part)) (wild_part old.in_parameter)) (comm_part old.in_parameter)) x × (Part.behind (then_part (then_part (then_part (wild_part old.in_parameter) (comma_part)) (wild_part old.in_parameter)) (comm_part old.in_parameter)) x (Some old.rest.now) ≡ Some rest) × (Part.ends (then_part (then_part (then_part (wild_part old.in_parameter) (comma_part)) (wild_part old.in_parameter)) (comm_part old.in_parameter)) rest ≡ true) × (Part.Same (then_part (then_part (then_part (wild_part old.in_parameter) (comma_part)) (wild_part old.in_parameter)) (comm_part old.in_parameter)) (((s, tt), t), c) x → Unit {0})
+        → after_arguments w (Some old.rest.now) ≡ Some rest → piece_begins piece.LineEnd (Some rest) ≡ true
+        → (x : _) × SyntaxPart.May (then_part (then_part (then_part (wild_part old.in_parameter) (comma_part)) (wild_part old.in_parameter)) (comm_part old.in_parameter)) x × (SyntaxPart.behind (then_part (then_part (then_part (wild_part old.in_parameter) (comma_part)) (wild_part old.in_parameter)) (comm_part old.in_parameter)) x (Some old.rest.now) ≡ Some rest) × (SyntaxPart.ends (then_part (then_part (then_part (wild_part old.in_parameter) (comma_part)) (wild_part old.in_parameter)) (comm_part old.in_parameter)) rest ≡ true) × (SyntaxPart.Same (then_part (then_part (then_part (wild_part old.in_parameter) (comma_part)) (wild_part old.in_parameter)) (comm_part old.in_parameter)) (((s, tt), t), c) x → Unit {0})
     back w rest sound may e ends =
         let s = is_probe w may.0 in
         let m = subst (MayCall old.in_parameter old.names.now) s.is may.1 in
@@ -228,8 +228,8 @@ pub matched_receive_as : (old : Parser) (started : Bool) (request : Option Label
 matched_receive_as old started request handle = record { back = back; stands = λ rest e may. e; may = λ m. (ap form.MatchedReceive m.0.0, (m.0.1, m.1)) }
   where
     back : (w : Arguments) (rest : List Token) → old.fault ≡ None → (form_of_call w ≡ (form.MatchedReceive started)) × MayCall old.in_parameter old.names.now w
-        → after_arguments w (Some old.rest.now) ≡ Some rest → begins piece.LineEnd (Some rest) ≡ true
-        → (x : _) × Part.May (then_part (request_part old.in_parameter old.names.now started) (label_part old.in_parameter old.names.now)) x × (Part.behind (then_part (request_part old.in_parameter old.names.now started) (label_part old.in_parameter old.names.now)) x (Some old.rest.now) ≡ Some rest) × (Part.ends (then_part (request_part old.in_parameter old.names.now started) (label_part old.in_parameter old.names.now)) rest ≡ true) × (Part.Same (then_part (request_part old.in_parameter old.names.now started) (label_part old.in_parameter old.names.now)) (request, handle) x → Unit {0})
+        → after_arguments w (Some old.rest.now) ≡ Some rest → piece_begins piece.LineEnd (Some rest) ≡ true
+        → (x : _) × SyntaxPart.May (then_part (request_part old.in_parameter old.names.now started) (label_part old.in_parameter old.names.now)) x × (SyntaxPart.behind (then_part (request_part old.in_parameter old.names.now started) (label_part old.in_parameter old.names.now)) x (Some old.rest.now) ≡ Some rest) × (SyntaxPart.ends (then_part (request_part old.in_parameter old.names.now started) (label_part old.in_parameter old.names.now)) rest ≡ true) × (SyntaxPart.Same (then_part (request_part old.in_parameter old.names.now started) (label_part old.in_parameter old.names.now)) (request, handle) x → Unit {0})
     back w rest sound may e ends =
         let s = is_matched_receive started w may.0 in
         let m = subst (MayCall old.in_parameter old.names.now) s.is may.1 in
@@ -240,8 +240,8 @@ pub wait_as : (old : Parser) (request : LabelForm)
 wait_as old request = record { back = back; stands = λ rest e may. e; may = λ m. (refl, m) }
   where
     back : (w : Arguments) (rest : List Token) → old.fault ≡ None → (form_of_call w ≡ form.Wait) × MayCall old.in_parameter old.names.now w
-        → after_arguments w (Some old.rest.now) ≡ Some rest → begins piece.LineEnd (Some rest) ≡ true
-        → (x : _) × Part.May (label_part old.in_parameter old.names.now) x × (Part.behind (label_part old.in_parameter old.names.now) x (Some old.rest.now) ≡ Some rest) × (Part.ends (label_part old.in_parameter old.names.now) rest ≡ true) × (Part.Same (label_part old.in_parameter old.names.now) request x → Unit {0})
+        → after_arguments w (Some old.rest.now) ≡ Some rest → piece_begins piece.LineEnd (Some rest) ≡ true
+        → (x : _) × SyntaxPart.May (label_part old.in_parameter old.names.now) x × (SyntaxPart.behind (label_part old.in_parameter old.names.now) x (Some old.rest.now) ≡ Some rest) × (SyntaxPart.ends (label_part old.in_parameter old.names.now) rest ≡ true) × (SyntaxPart.Same (label_part old.in_parameter old.names.now) request x → Unit {0})
     back w rest sound may e ends =
         let s = is_wait w may.0 in
         let m = subst (MayCall old.in_parameter old.names.now) s.is may.1 in
@@ -252,8 +252,8 @@ pub send_receive_as : (old : Parser) (d : Expression) (t : Expression) (s : Opti
 send_receive_as old d t s u c = record { back = back; stands = λ rest e may. e; may = λ m. (refl, (m.0.0.0.0.0.0.0, m.0.0.0.0.0.1, m.0.0.0.1, m.0.1, m.1)) }
   where
     back : (w : Arguments) (rest : List Token) → old.fault ≡ None → (form_of_call w ≡ form.SendReceive) × MayCall old.in_parameter old.names.now w
-        → after_arguments w (Some old.rest.now) ≡ Some rest → begins piece.LineEnd (Some rest) ≡ true
-        → (x : _) × Part.May (then_part (then_part (then_part (then_part (then_part (then_part (then_part (value_part old.in_parameter) (comma_part)) (value_part old.in_parameter)) (comma_part)) (wild_part old.in_parameter)) (comma_part)) (wild_part old.in_parameter)) (comm_part old.in_parameter)) x × (Part.behind (then_part (then_part (then_part (then_part (then_part (then_part (then_part (value_part old.in_parameter) (comma_part)) (value_part old.in_parameter)) (comma_part)) (wild_part old.in_parameter)) (comma_part)) (wild_part old.in_parameter)) (comm_part old.in_parameter)) x (Some old.rest.now) ≡ Some rest) × (Part.ends (then_part (then_part (then_part (then_part (then_part (then_part (then_part (value_part old.in_parameter) (comma_part)) (value_part old.in_parameter)) (comma_part)) (wild_part old.in_parameter)) (comma_part)) (wild_part old.in_parameter)) (comm_part old.in_parameter)) rest ≡ true) × (Part.Same (then_part (then_part (then_part (then_part (then_part (then_part (then_part (value_part old.in_parameter) (comma_part)) (value_part old.in_parameter)) (comma_part)) (wild_part old.in_parameter)) (comma_part)) (wild_part old.in_parameter)) (comm_part old.in_parameter)) (((((((d, tt), t), tt), s), tt), u), c) x → Unit {0})
+        → after_arguments w (Some old.rest.now) ≡ Some rest → piece_begins piece.LineEnd (Some rest) ≡ true
+        → (x : _) × SyntaxPart.May (then_part (then_part (then_part (then_part (then_part (then_part (then_part (value_part old.in_parameter) (comma_part)) (value_part old.in_parameter)) (comma_part)) (wild_part old.in_parameter)) (comma_part)) (wild_part old.in_parameter)) (comm_part old.in_parameter)) x × (SyntaxPart.behind (then_part (then_part (then_part (then_part (then_part (then_part (then_part (value_part old.in_parameter) (comma_part)) (value_part old.in_parameter)) (comma_part)) (wild_part old.in_parameter)) (comma_part)) (wild_part old.in_parameter)) (comm_part old.in_parameter)) x (Some old.rest.now) ≡ Some rest) × (SyntaxPart.ends (then_part (then_part (then_part (then_part (then_part (then_part (then_part (value_part old.in_parameter) (comma_part)) (value_part old.in_parameter)) (comma_part)) (wild_part old.in_parameter)) (comma_part)) (wild_part old.in_parameter)) (comm_part old.in_parameter)) rest ≡ true) × (SyntaxPart.Same (then_part (then_part (then_part (then_part (then_part (then_part (then_part (value_part old.in_parameter) (comma_part)) (value_part old.in_parameter)) (comma_part)) (wild_part old.in_parameter)) (comma_part)) (wild_part old.in_parameter)) (comm_part old.in_parameter)) (((((((d, tt), t), tt), s), tt), u), c) x → Unit {0})
     back w rest sound may e ends =
         let s = is_send_receive w may.0 in
         let m = subst (MayCall old.in_parameter old.names.now) s.is may.1 in
@@ -270,7 +270,7 @@ so_same false true e = absurd cc
 so_same false false e = refl
 
 abbrev pub at_line_end : List Token → Bool
-at_line_end rest = begins piece.LineEnd (Some rest)
+at_line_end rest = piece_begins piece.LineEnd (Some rest)
 
 pub collective_as : (old : Parser) (k : Kind) (rooted : Bool) (root : Option Expression) (g : Option GroupForm) (c : Option Expression) → rooted ≡ is_rooted k
     → IsAs (then_part (then_part (root_part old.in_parameter rooted) (group_part old.in_parameter)) (ended (comm_part old.in_parameter) at_line_end))
@@ -283,10 +283,10 @@ collective_as old k rooted root g c is_so = record {
 }
   where
     back : (w : Arguments) (rest : List Token) → old.fault ≡ None → (form_of_call w ≡ form.Collective k rooted) × MayCall old.in_parameter old.names.now w
-        → after_arguments w (Some old.rest.now) ≡ Some rest → begins piece.LineEnd (Some rest) ≡ true
+        → after_arguments w (Some old.rest.now) ≡ Some rest → piece_begins piece.LineEnd (Some rest) ≡ true
         → (x : (Option Expression × Option GroupForm) × Option Expression)
         × ((((has_root x.0.0 ≡ rooted) × MayValue old.in_parameter x.0.0) × IfThere (MayGroup old.in_parameter) x.0.1) × MayValue old.in_parameter x.1)
-        × (after_communicator x.1 (after_group x.0.1 (after_root x.0.0 (Some old.rest.now))) ≡ Some rest) × (begins piece.LineEnd (Some rest) ≡ true) × (((Unit {0} × Unit {0}) × Unit {0}) → Unit {0})
+        × (after_communicator x.1 (after_group x.0.1 (after_root x.0.0 (Some old.rest.now))) ≡ Some rest) × (piece_begins piece.LineEnd (Some rest) ≡ true) × (((Unit {0} × Unit {0}) × Unit {0}) → Unit {0})
     back w rest sound may e ends =
         let s = is_collective k rooted w may.0 in
         let m = subst (MayCall old.in_parameter old.names.now) s.is may.1 in

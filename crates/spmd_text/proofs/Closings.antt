@@ -12,14 +12,14 @@ use Rattle.spmd_text.specs.declared.piece.Token.{Token}
 use Rattle.spmd_text.specs.declared.reading.Policy.{Policy}
 use Rattle.spmd_text.specs.declared.reading.Policy.TheVariants as policy
 use Rattle.spmd_text.specs.parts.Joints.{Place}
-use Rattle.spmd_text.specs.Limits.{IsWithin}
-use Rattle.spmd_text.specs.Spelling.{Rest, after, after_end, after_head, after_optional, after_parameter, after_policy, after_span, after_statement, after_variable, begins, is_any, is_branch, is_ordered, is_tail, only, policy_word}
+use Rattle.spmd_text.specs.Limits.{IsTreeWithin}
+use Rattle.spmd_text.specs.Spelling.{Rest, after_piece, after_end, after_head, after_optional, after_parameter, after_policy, after_span, after_statement, after_variable, piece_begins, is_any, is_branch, is_ordered, is_tail, only, word_of_policy}
 use Rattle.spmd_text.specs.Rules.{IfThere}
 use Rattle.spmd_text.specs.parts.Statements.{MayOne, MayStatements, MayTail, first_word}
 use Rattle.spmd_text.specs.Statements.{Scope, is_one_of}
 use Rattle.spmd_text.specs.Programs.{ObeyParameters, parameters_of}
-use Rattle.spmd_text.specs.FirstFaults.{IsReadable}
-use Rattle.spmd_text.specs.parts.Lines.{Block, Level, Moves, Runs, Steps, begin, behind_one, in_block, in_loop, is_inner, lists, settled, takes, with_block, with_parameter}
+use Rattle.spmd_text.specs.FirstFaults.{AreReadablePieces}
+use Rattle.spmd_text.specs.parts.Lines.{Block, Level, Moves, Runs, Steps, begin, behind_one, in_block, in_loop, is_inner, lists, settled, takes_statement, with_block, with_parameter}
 use Rattle.spmd_text.specs.parts.Lines as lines
 use Rattle.spmd_text.proofs.BlockWords.{one_begins, start_begins, taken_begins}
 use Rattle.spmd_text.proofs.Following.{never_taken}
@@ -56,7 +56,7 @@ record Takes (f : Rest → Rest) (here : List Token) (GoesOn : List Token → Ty
   pub on : GoesOn mid
 
 abbrev Plain : Scope → ℕ → List Token → Type 0
-Plain scope depth here = Inner scope depth here (λ mid. Takes (after piece.TextEnd) mid (λ rest. rest ≡ []))
+Plain scope depth here = Inner scope depth here (λ mid. Takes (after_piece piece.TextEnd) mid (λ rest. rest ≡ []))
 
 -- these parameters more
 abbrev grown : List ℕ → Scope → Scope
@@ -76,7 +76,7 @@ record Headed (scope : Scope) (depth : ℕ) (here : List Token) : Type 0 where
   pub on : Listed scope depth mid
 
 abbrev heading_of : Rest → Rest
-heading_of z = after piece.LineEnd (after (piece.Word word.Spmd) z)
+heading_of z = after_piece piece.LineEnd (after_piece (piece.Word word.Spmd) z)
 
 abbrev FillsAt : Block → Scope → ℕ → (List Token → Type 0) → List Token → Type 0
 FillsAt lines.start scope depth Outer here = Takes heading_of here (Headed scope depth)
@@ -128,11 +128,11 @@ no_parameters scope depth here f =
     record { heads = statement.Nothing; mid = here; may = tt; spelled = refl; on = subst (λ (c : Scope). Plain c depth here) (sym (none_grown scope)) f }
 
 -- no line of the policy stands here
-no_policy : (scope : Scope) (depth : ℕ) (here : List Token) → begins (piece.Word word.Policy) (Some here) ≡ false → Listed scope depth here → Headed scope depth here
+no_policy : (scope : Scope) (depth : ℕ) (here : List Token) → piece_begins (piece.Word word.Policy) (Some here) ≡ false → Listed scope depth here → Headed scope depth here
 no_policy scope depth here none f = record {
   policy = policy.Any;
   mid = here;
-  spelled = not_chosen (begins (piece.Word word.Policy) (Some here)) (after piece.LineEnd (after (piece.Word word.Any) (after (piece.Word word.Policy) (Some here)))) (Some here) none;
+  spelled = not_chosen (piece_begins (piece.Word word.Policy) (Some here)) (after_piece piece.LineEnd (after_piece (piece.Word word.Any) (after_piece (piece.Word word.Policy) (Some here)))) (Some here) none;
   on = f;
 }
 
@@ -141,23 +141,23 @@ is_policy kinds.policy = true
 is_policy k = false
 
 -- what begins with another word is no line of the policy
-not_policy : (here : List Token) → is_policy (kind_at here) ≡ false → begins (piece.Word word.Policy) (Some here) ≡ false
+not_policy : (here : List Token) → is_policy (kind_at here) ≡ false → piece_begins (piece.Word word.Policy) (Some here) ≡ false
 unfolding is_policy
-not_policy here other = by (begins (piece.Word word.Policy) (Some here)) refl
+not_policy here other = by (piece_begins (piece.Word word.Policy) (Some here)) refl
   where
-    by : (b : Bool) → begins (piece.Word word.Policy) (Some here) ≡ b → b ≡ false
+    by : (b : Bool) → piece_begins (piece.Word word.Policy) (Some here) ≡ b → b ≡ false
     by false e = refl
     by true e = absurd (never_taken (sym other ∙ ap is_policy (kind_begins (piece.Word word.Policy) here e)))
 
 -- a statement before what fills
-one_before : (at : Place) (b : Block) (scope : Scope) (depth : ℕ) (Outer : List Token → Type 0) (s : Statement) (here mid : List Token) → takes b ≡ true → is_policy (kind_at here) ≡ false
+one_before : (at : Place) (b : Block) (scope : Scope) (depth : ℕ) (Outer : List Token → Type 0) (s : Statement) (here mid : List Token) → takes_statement b ≡ true → is_policy (kind_at here) ≡ false
     → MayOne scope depth s → after_statement s (Some here) ≡ Some mid → FillsAt (settled b) scope depth Outer mid → FillsAt b scope depth Outer here
 one_before at lines.start scope depth Outer s here mid is other may e f = absurd (let never : false ≡ true = is in cc)
 one_before at lines.headed scope depth Outer s here mid is other may e f =
-    no_policy scope depth here (not_policy here other) (no_parameters scope depth here (one_more at scope depth s here mid (λ m. Takes (after piece.TextEnd) m (λ rest. rest ≡ [])) may e f))
+    no_policy scope depth here (not_policy here other) (no_parameters scope depth here (one_more at scope depth s here mid (λ m. Takes (after_piece piece.TextEnd) m (λ rest. rest ≡ [])) may e f))
 one_before at lines.listed scope depth Outer s here mid is other may e f =
-    no_parameters scope depth here (one_more at scope depth s here mid (λ m. Takes (after piece.TextEnd) m (λ rest. rest ≡ [])) may e f)
-one_before at lines.plain scope depth Outer s here mid is other may e f = one_more at scope depth s here mid (λ m. Takes (after piece.TextEnd) m (λ rest. rest ≡ [])) may e f
+    no_parameters scope depth here (one_more at scope depth s here mid (λ m. Takes (after_piece piece.TextEnd) m (λ rest. rest ≡ [])) may e f)
+one_before at lines.plain scope depth Outer s here mid is other may e f = one_more at scope depth s here mid (λ m. Takes (after_piece piece.TextEnd) m (λ rest. rest ≡ [])) may e f
 one_before at lines.loop scope depth Outer s here mid is other may e f = one_more at scope depth s here mid (λ m. Takes (after_end false) m Outer) may e f
 one_before at lines.branch scope depth Outer s here mid is other may e f =
     one_more at scope depth s here mid (λ m. Tail scope depth m (λ rest. Takes (after_end false) rest Outer)) may e f
@@ -173,7 +173,7 @@ at_level : (levels outer : List Level) (l : Level) (here : List Token) → level
 at_level levels outer l here e f = subst (λ (ls : List Level). Fills ls here) (sym e) f
 
 -- a line of a statement that stands at these levels, up to the statement's end
-before_all : (at : Place) (l : Level) (outer : List Level) (s : Statement) (here mid : List Token) → takes l.block ≡ true → is_policy (kind_at here) ≡ false → MayOne l.scope l.depth s
+before_all : (at : Place) (l : Level) (outer : List Level) (s : Statement) (here mid : List Token) → takes_statement l.block ≡ true → is_policy (kind_at here) ≡ false → MayOne l.scope l.depth s
     → after_statement s (Some here) ≡ Some mid → Fills (behind_one l ∷ outer) mid → Fills (l ∷ outer) here
 before_all at l outer s here mid is other may e f = one_before at l.block l.scope l.depth (Fills outer) s here mid is other may e f
 
@@ -186,7 +186,7 @@ grown_on : (scope : Scope) (name : ℕ) (names : List ℕ) → grown names (grow
 grown_on scope name names =
     ap (λ (ps : List ℕ). record { in_parameter = scope.in_parameter; names = scope.names; parameters = ps; loops = scope.loops }) (append_assoc scope.parameters (name ∷ []) names)
 
-parameter_before : (at : Place) (scope : Scope) (depth number name : ℕ) (value : Option Expression) (here mid : List Token) → is_one_of scope.parameters name ≡ false → IfThere (IsWithin 32 true) value
+parameter_before : (at : Place) (scope : Scope) (depth number name : ℕ) (value : Option Expression) (here mid : List Token) → is_one_of scope.parameters name ≡ false → IfThere (IsTreeWithin 32 true) value
     → after_parameter number name value (Some here) ≡ Some mid → Listed (grown (name ∷ []) scope) depth mid → Listed scope depth here
 parameter_before at scope depth number name value here mid other within e f = record {
   heads = statement.Sequence' at (statement.Parameter number name value) at f.heads;
@@ -199,9 +199,9 @@ parameter_before at scope depth number name value here mid other within e f = re
 parameter_first : (number name : ℕ) (value : Option Expression) (here mid : List Token) → after_parameter number name value (Some here) ≡ Some mid → kind_at here ≡ kinds.parameter
 parameter_first number name value here mid e =
     kind_begins (piece.Word word.Param) here
-    (start_begins (λ z. after piece.LineEnd (after_optional piece.Equals value (after (piece.Name name) z))) (after_of piece.LineEnd _ (optional_strict piece.Equals value)) number word.Param here mid e)
+    (start_begins (λ z. after_piece piece.LineEnd (after_optional piece.Equals value (after_piece (piece.Name name) z))) (after_of piece.LineEnd _ (optional_strict piece.Equals value)) number word.Param here mid e)
 
-listed_at : (b : Block) (scope : Scope) (depth : ℕ) (Outer : List Token → Type 0) (here : List Token) → lists b ≡ true → begins (piece.Word word.Policy) (Some here) ≡ false → Listed scope depth here
+listed_at : (b : Block) (scope : Scope) (depth : ℕ) (Outer : List Token → Type 0) (here : List Token) → lists b ≡ true → piece_begins (piece.Word word.Policy) (Some here) ≡ false → Listed scope depth here
     → FillsAt b scope depth Outer here
 listed_at lines.headed scope depth Outer here is other f = no_policy scope depth here other f
 listed_at lines.listed scope depth Outer here is other f = f
@@ -231,7 +231,7 @@ branch_spelled at number chained c first second here mid rest behind final p q e
     ∙ (ap (λ (b : Bool). only (not b && is_tail second) (after_end chained (Some behind))) p
     ∙ (ap (λ (b : Bool). only b (after_end chained (Some behind))) q ∙ h))))
 
-else_spelled : (at : Place) (inner : Statement) (here mid rest : List Token) → is_branch inner ≡ false → after piece.LineEnd (after (piece.Word word.Else) (Some here)) ≡ Some mid
+else_spelled : (at : Place) (inner : Statement) (here mid rest : List Token) → is_branch inner ≡ false → after_piece piece.LineEnd (after_piece (piece.Word word.Else) (Some here)) ≡ Some mid
     → after_statement inner (Some mid) ≡ Some rest → after_statement (statement.Otherwise' at inner) (Some here) ≡ Some rest
 else_spelled at inner here mid rest p e f =
     ap (λ (z : Rest). only (not (is_branch inner)) (after_statement inner z)) e ∙ (ap (λ (b : Bool). only (not b) (after_statement inner (Some mid))) p ∙ f)
@@ -248,15 +248,15 @@ ended_at lines.listed scope depth Outer here rest is e on = absurd (let never : 
 ended_at lines.plain scope depth Outer here rest is e on = absurd (let never : false ≡ true = is in cc)
 
 -- the text ends at a level that is in no block
-text_ended : (b : Block) (scope : Scope) (depth : ℕ) (Outer : List Token → Type 0) (here : List Token) → takes b ≡ true → is_inner b ≡ false → after piece.TextEnd (Some here) ≡ Some []
+text_ended : (b : Block) (scope : Scope) (depth : ℕ) (Outer : List Token → Type 0) (here : List Token) → takes_statement b ≡ true → is_inner b ≡ false → after_piece piece.TextEnd (Some here) ≡ Some []
     → kind_at here ≡ kinds.text_end → FillsAt b scope depth Outer here
 unfolding is_policy
 text_ended b scope depth Outer here is outermost e kind = by b is outermost
   where
     ends : Plain scope depth here
-    ends = nothing_more scope depth here (λ m. Takes (after piece.TextEnd) m (λ rest. rest ≡ [])) (record { mid = []; spelled = e; on = refl })
+    ends = nothing_more scope depth here (λ m. Takes (after_piece piece.TextEnd) m (λ rest. rest ≡ [])) (record { mid = []; spelled = e; on = refl })
 
-    by : (c : Block) → takes c ≡ true → is_inner c ≡ false → FillsAt c scope depth Outer here
+    by : (c : Block) → takes_statement c ≡ true → is_inner c ≡ false → FillsAt c scope depth Outer here
     by lines.start it out = absurd (let never : false ≡ true = it in cc)
     by lines.headed it out = no_policy scope depth here (not_policy here (ap is_policy kind)) (no_parameters scope depth here ends)
     by lines.listed it out = no_parameters scope depth here ends
@@ -277,9 +277,9 @@ step_back at levels line next (lines.policy h) rest f =
     let g = subst (λ (ls : List Level). Fills ls rest) h.is f in
     let here = line ++ rest in
     let e = (policy_line h.policy).more line rest h.spelled in
-    let one = left_before (after piece.LineEnd) refl (after (piece.Word (policy_word h.policy)) (after (piece.Word word.Policy) (Some here))) rest e in
-    let two = left_before (after (piece.Word (policy_word h.policy))) refl (after (piece.Word word.Policy) (Some here)) one.0 one.1 in
-    let taken = chosen (begins (piece.Word word.Policy) (Some here)) (after piece.LineEnd (after (piece.Word (policy_word h.policy)) (after (piece.Word word.Policy) (Some here)))) (only (is_any h.policy) (Some here))
+    let one = left_before (after_piece piece.LineEnd) refl (after_piece (piece.Word (word_of_policy h.policy)) (after_piece (piece.Word word.Policy) (Some here))) rest e in
+    let two = left_before (after_piece (piece.Word (word_of_policy h.policy))) refl (after_piece (piece.Word word.Policy) (Some here)) one.0 one.1 in
+    let taken = chosen (piece_begins (piece.Word word.Policy) (Some here)) (after_piece piece.LineEnd (after_piece (piece.Word (word_of_policy h.policy)) (after_piece (piece.Word word.Policy) (Some here)))) (only (is_any h.policy) (Some here))
     (taken_begins word.Policy here two.0 two.1) in
     at_level levels h.outer h.level here h.here
     (at_block lines.headed h.level.block h.level.scope h.level.depth (Fills h.outer) here h.second (record { policy = h.policy; mid = rest; spelled = taken ∙ e; on = g }))
@@ -352,7 +352,7 @@ step_back at levels line next (lines.text_end h) rest f =
     let none : rest ≡ [] = subst (λ (ls : List Level). Fills ls rest) h.is f in
     let all : line ++ rest ≡ line = ap (λ (xs : List Token). line ++ xs) none ∙ append-nil line in
     at_level levels [] h.level (line ++ rest) h.here
-    (text_ended h.level.block h.level.scope h.level.depth (Fills []) (line ++ rest) h.begun h.outermost (ap (λ (xs : List Token). after piece.TextEnd (Some xs)) all ∙ h.spelled)
+    (text_ended h.level.block h.level.scope h.level.depth (Fills []) (line ++ rest) h.begun h.outermost (ap (λ (xs : List Token). after_piece piece.TextEnd (Some xs)) all ∙ h.spelled)
     (ap kind_at all ∙ text_end_kind line [] h.spelled))
 
 runs_back : (at : Place) (reached levels : List Level) (pieces rest : List Token) → Runs reached levels pieces → Fills reached rest → Fills levels (pieces ++ rest)
@@ -372,7 +372,7 @@ text_end_piece = record { line = 1; piece = piece.TextEnd } ∷ []
 
 plain_end : (scope : Scope) (depth : ℕ) → Plain scope depth text_end_piece
 unfolding text_end_piece
-plain_end scope depth = nothing_more scope depth text_end_piece (λ m. Takes (after piece.TextEnd) m (λ rest. rest ≡ [])) (record { mid = []; spelled = refl; on = refl })
+plain_end scope depth = nothing_more scope depth text_end_piece (λ m. Takes (after_piece piece.TextEnd) m (λ rest. rest ≡ [])) (record { mid = []; spelled = refl; on = refl })
 
 closing_at : (b : Block) (scope : Scope) (depth : ℕ) (Outer : List Token → Type 0) → (rest : List Token) × Outer rest → (here : List Token) × FillsAt b scope depth Outer here
 unfolding end_pieces text_end_piece is_policy
@@ -393,7 +393,7 @@ closing_of (l ∷ outer) = closing_at l.block l.scope l.depth (Fills outer) (clo
 
 -- ---- the whole text
 
-fills_readable : (at : Place) (names : List (Vec ℕ)) (here : List Token) → Fills (begin names ∷ []) here → IsReadable names here
+fills_readable : (at : Place) (names : List (Vec ℕ)) (here : List Token) → Fills (begin names ∷ []) here → AreReadablePieces names here
 fills_readable at names here f =
     let heads : Statement = f.on.on.heads in
     let tree : Statement = f.on.on.on.tree in
@@ -405,10 +405,10 @@ fills_readable at names here f =
       policy = p;
       program = s;
       says = record {
-        spelled = ap (λ (z : Rest). only (is_ordered s) (after piece.TextEnd (after_statement s (after_policy p z)))) f.spelled
-            ∙ (ap (λ (z : Rest). only (is_ordered s) (after piece.TextEnd (after_statement s z))) f.on.spelled
-            ∙ (ap (λ (z : Rest). only (is_ordered s) (after piece.TextEnd z)) spelled
-            ∙ (ap (λ (b : Bool). only b (after piece.TextEnd (Some f.on.on.on.mid))) ordered
+        spelled = ap (λ (z : Rest). only (is_ordered s) (after_piece piece.TextEnd (after_statement s (after_policy p z)))) f.spelled
+            ∙ (ap (λ (z : Rest). only (is_ordered s) (after_piece piece.TextEnd (after_statement s z))) f.on.spelled
+            ∙ (ap (λ (z : Rest). only (is_ordered s) (after_piece piece.TextEnd z)) spelled
+            ∙ (ap (λ (b : Bool). only b (after_piece piece.TextEnd (Some f.on.on.on.mid))) ordered
             ∙ (f.on.on.on.on.spelled ∙ ap Some f.on.on.on.on.on))));
         obeys = (f.on.on.may, f.on.on.on.may.obeys);
       };
@@ -417,6 +417,6 @@ fills_readable at names here f =
 -- Lines that may stand one after another from the beginning of a text on are the beginning of some
 -- text that can be read.
 pub begins_readable : (at : Place) (names : List (Vec ℕ)) (reached : List Level) (before : List Token) → Runs reached (begin names ∷ []) before
-    → (other : List Token) × IsReadable names (before ++ other)
+    → (other : List Token) × AreReadablePieces names (before ++ other)
 begins_readable at names reached before runs =
     let c = closing_of reached in (c.0, fills_readable at names (before ++ c.0) (runs_back at reached (begin names ∷ []) before c.0 runs c.1))

@@ -11,13 +11,13 @@ use Rattle.spmd_text.specs.declared.piece.Piece.TheVariants as piece
 use Rattle.spmd_text.specs.declared.piece.Token.{Token}
 use Rattle.spmd_text.specs.declared.reading.Policy.{Policy}
 use Rattle.spmd_text.specs.parts.Joints.{Place}
-use Rattle.spmd_text.specs.Limits.{IsWithin}
-use Rattle.spmd_text.specs.Spelling.{Rest, after, after_policy, after_statement, after_text, begins, is_any, is_branch, is_ordered, only, policy_word}
+use Rattle.spmd_text.specs.Limits.{IsTreeWithin}
+use Rattle.spmd_text.specs.Spelling.{Rest, after_piece, after_policy, after_statement, after_text, piece_begins, is_any, is_branch, is_ordered, only, word_of_policy}
 use Rattle.spmd_text.specs.parts.Statements.{MayOne, MaySpan, MayStatements}
 use Rattle.spmd_text.specs.Statements.{Scope, may_give}
 use Rattle.spmd_text.specs.Programs.{ObeyParameters, ObeysText, behind_parameters, parameters_of}
-use Rattle.spmd_text.specs.FirstFaults.{IsFirstFault}
-use Rattle.spmd_text.specs.parts.Lines.{Block, IsStuckAt, Level, Moves, Runs, Steps, begin, behind_one, in_block, in_loop, is_inner, lists, settled, takes, with_block}
+use Rattle.spmd_text.specs.FirstFaults.{IsFirstWrongLine}
+use Rattle.spmd_text.specs.parts.Lines.{Block, IsStuckAt, Level, Moves, Runs, Steps, begin, behind_one, in_block, in_loop, is_inner, lists, settled, takes_statement, with_block}
 use Rattle.spmd_text.specs.Lines.{are_lines, closes, is_line}
 use Rattle.spmd_text.specs.parts.Lines as lines
 use Rattle.spmd_text.proofs.BlockForms.{not_so}
@@ -61,19 +61,19 @@ abbrev pub only_level : Block → Scope → ℕ → List Level
 only_level b scope depth = record { block = b; scope = scope; depth = depth } ∷ []
 
 -- up to where a parameter may stand
-pub record RunsEarly (b : Block) (scope after : Scope) (depth : ℕ) (here rest : List Token) : Type 0 where
+pub record RunsEarly (b : Block) (scope after_piece : Scope) (depth : ℕ) (here rest : List Token) : Type 0 where
   pub block : Block
   pub early : lists block ≡ true
   -- right behind the heading nothing was read
   pub kept : block ≡ lines.headed → (b ≡ lines.headed) × (here ≡ rest)
-  pub runs : RunsTo (only_level b scope depth) (only_level block after depth) here rest
+  pub runs : RunsTo (only_level b scope depth) (only_level block after_piece depth) here rest
 
 -- where no line of the policy was read, none stands here
 pub record PolicyRuns (scope : Scope) (depth : ℕ) (here rest : List Token) : Type 0 where
   pub runs : RunsEarly lines.headed scope scope depth here rest
-  pub unsaid : runs.block ≡ lines.headed → begins (piece.Word word.Policy) (Some rest) ≡ false
+  pub unsaid : runs.block ≡ lines.headed → piece_begins (piece.Word word.Policy) (Some rest) ≡ false
 
-pub heading_runs : (scope : Scope) (depth : ℕ) (here rest : List Token) → after piece.LineEnd (after (piece.Word word.Spmd) (Some here)) ≡ Some rest
+pub heading_runs : (scope : Scope) (depth : ℕ) (here rest : List Token) → after_piece piece.LineEnd (after_piece (piece.Word word.Spmd) (Some here)) ≡ Some rest
     → RunsTo (only_level lines.start scope depth) (only_level lines.headed scope depth) here rest
 heading_runs scope depth here rest e =
     let a = heading_line.alone here rest e in
@@ -81,11 +81,11 @@ heading_runs scope depth here rest e =
     (lines.heading (record { level = record { block = lines.start; scope = scope; depth = depth }; outer = []; here = refl; first = refl; spelled = a.spelled; is = refl }))
 
 pub policy_runs : (p : Policy) (scope : Scope) (depth : ℕ) (here rest : List Token) → after_policy p (Some here) ≡ Some rest → PolicyRuns scope depth here rest
-policy_runs p scope depth here rest e = by (begins (piece.Word word.Policy) (Some here)) refl
+policy_runs p scope depth here rest e = by (piece_begins (piece.Word word.Policy) (Some here)) refl
   where
-    by : (b : Bool) → begins (piece.Word word.Policy) (Some here) ≡ b → PolicyRuns scope depth here rest
+    by : (b : Bool) → piece_begins (piece.Word word.Policy) (Some here) ≡ b → PolicyRuns scope depth here rest
     by true is =
-        let a = (policy_line p).alone here rest (sym (chosen (begins (piece.Word word.Policy) (Some here)) (after piece.LineEnd (after (piece.Word (policy_word p)) (after (piece.Word word.Policy) (Some here)))) (only (is_any p) (Some here)) is) ∙ e) in
+        let a = (policy_line p).alone here rest (sym (chosen (piece_begins (piece.Word word.Policy) (Some here)) (after_piece piece.LineEnd (after_piece (piece.Word (word_of_policy p)) (after_piece (piece.Word word.Policy) (Some here)))) (only (is_any p) (Some here)) is) ∙ e) in
         record {
           runs = record {
             block = lines.listed;
@@ -97,7 +97,7 @@ policy_runs p scope depth here rest e = by (begins (piece.Word word.Policy) (Som
           unsaid = λ f. absurd (let never : lines.listed ≡ lines.headed = f in cc);
         }
     by false is =
-        let o = only_left (is_any p) (Some here) rest (sym (not_chosen (begins (piece.Word word.Policy) (Some here)) (after piece.LineEnd (after (piece.Word (policy_word p)) (after (piece.Word word.Policy) (Some here)))) (only (is_any p) (Some here)) is) ∙ e) in
+        let o = only_left (is_any p) (Some here) rest (sym (not_chosen (piece_begins (piece.Word word.Policy) (Some here)) (after_piece piece.LineEnd (after_piece (piece.Word (word_of_policy p)) (after_piece (piece.Word word.Policy) (Some here)))) (only (is_any p) (Some here)) is) ∙ e) in
         let same : here ≡ rest = same_Some here rest o.1 in
         record {
           runs = record {
@@ -106,7 +106,7 @@ policy_runs p scope depth here rest e = by (begins (piece.Word word.Policy) (Som
             kept = λ f. (refl, same);
             runs = subst (λ (xs : List Token). RunsTo (only_level lines.headed scope depth) (only_level lines.headed scope depth) here xs) same (no_step (only_level lines.headed scope depth) here);
           };
-          unsaid = λ f. ap (λ (xs : List Token). begins (piece.Word word.Policy) (Some xs)) (sym same) ∙ is;
+          unsaid = λ f. ap (λ (xs : List Token). piece_begins (piece.Word word.Policy) (Some xs)) (sym same) ∙ is;
         }
 
 abbrev pub grown : List ℕ → Scope → Scope
@@ -172,7 +172,7 @@ parameters_run (statement.Unreached line) b scope depth here rest early o e = ab
 
 -- ---- statements behind the heading and the parameters
 
-lists_takes : (b : Block) → lists b ≡ true → takes b ≡ true
+lists_takes : (b : Block) → lists b ≡ true → takes_statement b ≡ true
 lists_takes lines.headed e = refl
 lists_takes lines.listed e = refl
 lists_takes lines.start e = absurd (let never : false ≡ true = e in cc)
@@ -255,7 +255,7 @@ step_early b scope depth line next early (lines.when h) =
       number = h.number;
       condition = h.condition;
       deep = subst (λ (l : Level). 1 ≤ l.depth) (sym i.0) h.deep;
-      within = subst (λ (l : Level). IsWithin 32 l.scope.in_parameter h.condition) (sym i.0) h.within;
+      within = subst (λ (l : Level). IsTreeWithin 32 l.scope.in_parameter h.condition) (sym i.0) h.within;
       spelled = h.spelled;
       is = h.is ∙ (ap (λ (l : Level). in_block lines.branch l ∷ behind_one l ∷ h.outer) (sym i.0)
           ∙ (ap (λ (ls : List Level). in_block lines.branch (record { block = lines.plain; scope = scope; depth = depth }) ∷ record { block = lines.plain; scope = scope; depth = depth } ∷ ls) (sym i.1)
@@ -279,7 +279,7 @@ runs_early b scope depth here early (lines.done is none) = absurd (let never : o
 runs_early b scope depth here early (lines.more m r) =
     lines.more (record { line = m.line; rest = m.rest; next = m.next; split = m.split; steps = step_early b scope depth m.line m.next early m.steps }) r
 
-text_end_runs : (scope : Scope) (depth : ℕ) (here : List Token) → after piece.TextEnd (Some here) ≡ Some [] → Runs [] (only_level lines.plain scope depth) here
+text_end_runs : (scope : Scope) (depth : ℕ) (here : List Token) → after_piece piece.TextEnd (Some here) ≡ Some [] → Runs [] (only_level lines.plain scope depth) here
 text_end_runs scope depth here e =
     lines.more (record {
       line = here;
@@ -301,9 +301,9 @@ takes_left F z left rest is e = ap F (sym is) ∙ e
 text_runs : (names : List (Vec ℕ)) (p : Policy) (s : Statement) (here : List Token) → after_text p s (Some here) ≡ Some [] → ObeysText names s → Runs [] (begin names ∷ []) here
 text_runs names p (statement.Sequence' q x r y) here e o =
     let s : Statement = statement.Sequence' q x r y in
-    let start : Rest = after piece.LineEnd (after (piece.Word word.Spmd) (Some here)) in
-    let whole = only_left (is_ordered s) (after piece.TextEnd (after_statement s (after_policy p start))) [] e in
-    let fourth = left_before (after piece.TextEnd) refl (after_statement s (after_policy p start)) [] whole.1 in
+    let start : Rest = after_piece piece.LineEnd (after_piece (piece.Word word.Spmd) (Some here)) in
+    let whole = only_left (is_ordered s) (after_piece piece.TextEnd (after_statement s (after_policy p start))) [] e in
+    let fourth = left_before (after_piece piece.TextEnd) refl (after_statement s (after_policy p start)) [] whole.1 in
     let both = only_left (not (is_branch x) && not (is_branch y)) (after_statement y (after_statement x (after_policy p start))) fourth.0 fourth.1 in
     let third = left_before (after_statement y) (statement_strict y) (after_statement x (after_policy p start)) fourth.0 both.1 in
     let second = left_before (after_statement x) (statement_strict x) (after_policy p start) third.0 third.1 in
@@ -314,7 +314,7 @@ text_runs names p (statement.Sequence' q x r y) here e o =
     let listed = parameters_run x lined.block scope 32 second.0 third.0 lined.early o.0 (takes_left (after_statement x) (after_policy p start) second.0 third.0 second.1 third.1) in
     let may : MayStatements (behind_parameters names x) 32 y = record { plain = plain_right x y both.0; obeys = o.1 } in
     let statements = statements_run y lines.plain (behind_parameters names x) 32 [] third.0 fourth.0 refl may (takes_left (after_statement y) (after_statement x (after_policy p start)) third.0 fourth.0 third.1 both.1) in
-    let ends = text_end_runs (behind_parameters names x) 32 fourth.0 (takes_left (after piece.TextEnd) (after_statement s (after_policy p start)) fourth.0 [] fourth.1 whole.1) in
+    let ends = text_end_runs (behind_parameters names x) 32 fourth.0 (takes_left (after_piece piece.TextEnd) (after_statement s (after_policy p start)) fourth.0 [] fourth.1 whole.1) in
     let behind_all = only_level lines.plain (behind_parameters names x) 32 in
     let behind_heads = runs_early listed.block (behind_parameters names x) 32 third.0 listed.early (runs_from {a = behind_all} {b = behind_all} {here = third.0} {rest = fourth.0} statements ends) in
     runs_from {a = only_level lines.start scope 32} {b = only_level lines.headed scope 32} {here = here} {rest = first.0} heads
@@ -344,7 +344,7 @@ stuck_behind reached bad other one stuck (lines.more m r) =
     stuck m.next (subst (λ (xs : List Token). Steps reached xs m.next) first.0 m.steps)
 
 -- The line where none may stand, behind lines that may, is the first that is wrong.
-pub first_fault : (at : Place) (names : List (Vec ℕ)) (tokens : List Token) (number : ℕ) → IsStuckAt (begin names ∷ []) tokens number → IsFirstFault names tokens number
+pub first_fault : (at : Place) (names : List (Vec ℕ)) (tokens : List Token) (number : ℕ) → IsStuckAt (begin names ∷ []) tokens number → IsFirstWrongLine names tokens number
 first_fault at names tokens number s = record {
   before = s.before;
   bad = s.bad;

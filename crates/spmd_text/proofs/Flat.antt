@@ -13,9 +13,9 @@ use Rattle.spmd_text.specs.declared.piece.Piece.{Piece}
 use Rattle.spmd_text.specs.declared.piece.Piece.TheVariants as piece
 use Rattle.spmd_text.specs.declared.piece.Token.{Token}
 use Rattle.spmd_text.specs.parts.Reading.{Finds, next, next_of}
-use Rattle.spmd_text.specs.Spelling.{Rest, after_statement, begins, call_word, is_branch, only}
-use Rattle.spmd_text.specs.parts.Parts.{Keeps, Reads, form_of, form_of_call}
-use Rattle.spmd_text.specs.parts.Statements.{Begins, Left, Makes, MayAll, MayStatements, RowSoFar, behind_all, ends_behind, ends_statements, first_word, flat, flat_all, is_end, is_first, is_one, one_part, scope_of, statements_part, word_of}
+use Rattle.spmd_text.specs.Spelling.{Rest, after_statement, piece_begins, call_word, is_branch, only}
+use Rattle.spmd_text.specs.parts.Parts.{Keeps, HasRead, syntax_form, form_of_call}
+use Rattle.spmd_text.specs.parts.Statements.{Begins, Left, MakesOrLacksMemory, MayAll, MayStatements, RowSoFar, behind_all, ends_behind, ends_statements, first_word, flat, flat_all, is_end, is_first, is_one, one_part, scope_of, statements_part, keyword_of}
 use Rattle.spmd_text.specs.Statements.{Obeys, Scope}
 use Rattle.spmd_text.proofs.BlockForms.{next_begins, not_so}
 use Rattle.spmd_text.proofs.BlockWords.{one_begins, same_begin, statement_strict}
@@ -121,7 +121,7 @@ some_word v w e = cc
 first_word_is : (v w : Word) → is_first v ≡ true → Some v ≡ Some w → (piece.Word v ≡ piece.Word w) × (is_first w ≡ true)
 first_word_is v w first e = let same = some_word v w e in (ap piece.Word same, ap is_first (sym same) ∙ first)
 
-pub word_of_is : (p : Piece) (w : Word) → word_of p ≡ Some w → (p ≡ piece.Word w) × (is_first w ≡ true)
+pub word_of_is : (p : Piece) (w : Word) → keyword_of p ≡ Some w → (p ≡ piece.Word w) × (is_first w ≡ true)
 word_of_is (piece.Word word.End) w e = absurd (let never : None ≡ Some w = e in cc)
 word_of_is (piece.Word word.Else) w e = absurd (let never : None ≡ Some w = e in cc)
 word_of_is (piece.Word word.Elif) w e = absurd (let never : None ≡ Some w = e in cc)
@@ -142,13 +142,13 @@ first_plain (statement.Otherwise' p a) first = absurd (let never : false ≡ tru
 first_plain (statement.When' line false c p a q b) first = refl
 first_plain s first = refl
 
-call_begins : (v : Word) (f : Form) → form_of v ≡ Some f → word_of (piece.Word v) ≡ Some v
+call_begins : (v : Word) (f : Form) → syntax_form v ≡ Some f → keyword_of (piece.Word v) ≡ Some v
 call_begins word.End f e = absurd (let never : None ≡ Some f = e in cc)
 call_begins word.Else f e = absurd (let never : None ≡ Some f = e in cc)
 call_begins word.Elif f e = absurd (let never : None ≡ Some f = e in cc)
 call_begins v f e = refl
 
-pub plain_first : (s : Statement) → is_one s ≡ true → is_branch s ≡ false → word_of (piece.Word (first_word s)) ≡ Some (first_word s)
+pub plain_first : (s : Statement) → is_one s ≡ true → is_branch s ≡ false → keyword_of (piece.Word (first_word s)) ≡ Some (first_word s)
 plain_first statement.Nothing one plain = absurd (let never : false ≡ true = one in cc)
 plain_first (statement.Sequence' p a q b) one plain = absurd (let never : false ≡ true = one in cc)
 plain_first (statement.Parameter line name v) one plain = absurd (let never : false ≡ true = one in cc)
@@ -170,22 +170,22 @@ pub ends_is_end : (here : List Token) → ends_statements here ≡ true → is_e
 ends_is_end [] e = absurd (let never : false ≡ true = e in cc)
 ends_is_end (t ∷ ts) e = by_half (or_cases _ _ e)
   where
-    by_piece : (p : Piece) → is_end p ≡ true → begins p (Some (t ∷ ts)) ≡ true → is_end t.piece ≡ true
+    by_piece : (p : Piece) → is_end p ≡ true → piece_begins p (Some (t ∷ ts)) ≡ true → is_end t.piece ≡ true
     by_piece p is f = ap is_end (piece_is p t.piece f) ∙ is
 
-    by_first : (begins (piece.Word word.End) (Some (t ∷ ts)) ≡ true) ⊎ (begins (piece.Word word.Else) (Some (t ∷ ts)) ≡ true) → is_end t.piece ≡ true
+    by_first : (piece_begins (piece.Word word.End) (Some (t ∷ ts)) ≡ true) ⊎ (piece_begins (piece.Word word.Else) (Some (t ∷ ts)) ≡ true) → is_end t.piece ≡ true
     by_first (inl f) = by_piece (piece.Word word.End) refl f
     by_first (inr f) = by_piece (piece.Word word.Else) refl f
 
-    by_second : (begins (piece.Word word.Elif) (Some (t ∷ ts)) ≡ true) ⊎ (begins piece.TextEnd (Some (t ∷ ts)) ≡ true) → is_end t.piece ≡ true
+    by_second : (piece_begins (piece.Word word.Elif) (Some (t ∷ ts)) ≡ true) ⊎ (piece_begins piece.TextEnd (Some (t ∷ ts)) ≡ true) → is_end t.piece ≡ true
     by_second (inl f) = by_piece (piece.Word word.Elif) refl f
     by_second (inr f) = by_piece piece.TextEnd refl f
 
-    by_half : ((begins (piece.Word word.End) (Some (t ∷ ts)) || begins (piece.Word word.Else) (Some (t ∷ ts))) ≡ true) ⊎ ((begins (piece.Word word.Elif) (Some (t ∷ ts)) || begins piece.TextEnd (Some (t ∷ ts))) ≡ true) → is_end t.piece ≡ true
-    by_half (inl f) = by_first (or_cases (begins (piece.Word word.End) (Some (t ∷ ts))) (begins (piece.Word word.Else) (Some (t ∷ ts))) f)
-    by_half (inr f) = by_second (or_cases (begins (piece.Word word.Elif) (Some (t ∷ ts))) (begins piece.TextEnd (Some (t ∷ ts))) f)
+    by_half : ((piece_begins (piece.Word word.End) (Some (t ∷ ts)) || piece_begins (piece.Word word.Else) (Some (t ∷ ts))) ≡ true) ⊎ ((piece_begins (piece.Word word.Elif) (Some (t ∷ ts)) || piece_begins piece.TextEnd (Some (t ∷ ts))) ≡ true) → is_end t.piece ≡ true
+    by_half (inl f) = by_first (or_cases (piece_begins (piece.Word word.End) (Some (t ∷ ts))) (piece_begins (piece.Word word.Else) (Some (t ∷ ts))) f)
+    by_half (inr f) = by_second (or_cases (piece_begins (piece.Word word.Elif) (Some (t ∷ ts))) (piece_begins piece.TextEnd (Some (t ∷ ts))) f)
 
-end_no_word : (p : Piece) → is_end p ≡ true → word_of p ≡ None
+end_no_word : (p : Piece) → is_end p ≡ true → keyword_of p ≡ None
 end_no_word (piece.Word word.End) e = refl
 end_no_word (piece.Word word.Else) e = refl
 end_no_word (piece.Word word.Elif) e = refl
@@ -202,8 +202,8 @@ row_begun old depth = record {
   may = λ sound. tt;
 }
 
-pub row_more : {old s mid new : Parser} {depth : ℕ} {list longer : List Statement} (w : Word) (item : Statement) → RowSoFar old s depth list → word_of (next s) ≡ Some w
-    → Reads (one_part (scope_of s) depth w) s mid item → Makes mid new (longer ≡ list ++ item ∷ []) → RowSoFar old new depth longer
+pub row_more : {old s mid new : Parser} {depth : ℕ} {list longer : List Statement} (w : Word) (item : Statement) → RowSoFar old s depth list → keyword_of (next s) ≡ Some w
+    → HasRead (one_part (scope_of s) depth w) s mid item → MakesOrLacksMemory mid new (longer ≡ list ++ item ∷ []) → RowSoFar old new depth longer
 row_more {old} {s} {mid} {new} {depth} {list} {longer} w item so_far is reads makes = record {
   goes = keeps_on so_far.goes (keeps_on r.goes (made_goes makes));
   finds = λ row rest sound e may ends. by_left rest ends (so_far.finds row rest sound e may ends);
@@ -211,7 +211,7 @@ row_more {old} {s} {mid} {new} {depth} {list} {longer} w item so_far is reads ma
   may = may;
 }
   where
-    r : Reads (one_part (scope_of old) depth w) s mid item
+    r : HasRead (one_part (scope_of old) depth w) s mid item
     r = on_scope (λ scope. one_part scope depth w) so_far.goes reads
 
     known : (next s ≡ piece.Word w) × (is_first w ≡ true)
@@ -231,7 +231,7 @@ row_more {old} {s} {mid} {new} {depth} {list} {longer} w item so_far is reads ma
         absurd (let never : None ≡ Some w = sym none ∙ is in cc)
     by_row rest ends sound (x ∷ xs) e may =
         let between = left_before (behind_all xs) (all_strict xs) (after_statement x (Some s.rest.now)) rest e in
-        let begun : Begins (scope_of old) depth w x = record { one = may.0.one; begins = same_begin (first_word x) w s.rest.now (one_begins x may.0.one s.rest.now between.0 between.1) (next_begins w s.fault s.rest.now sound known.0); obeys = may.0.obeys } in
+        let begun : Begins (scope_of old) depth w x = record { one = may.0.one; piece_begins = same_begin (first_word x) w s.rest.now (one_begins x may.0.one s.rest.now between.0 between.1) (next_begins w s.fault s.rest.now sound known.0); obeys = may.0.obeys } in
         by_found rest between.0 xs (ap (behind_all xs) (sym between.1) ∙ e) may.1
         (finds_made makes (r.finds x between.0 sound between.1 begun (first_ends w between.0 known.1)))
 
@@ -261,9 +261,9 @@ row_more {old} {s} {mid} {new} {depth} {list} {longer} w item so_far is reads ma
         (may_append (scope_of old) depth (flat_all list) (item ∷ []) (so_far.may (sound_before r.goes mid_sound))
         (record { one = b.one; plain = first_plain item (first_of item w b.begins known.1); obeys = b.obeys }, tt))
 
-pub row_ended : {old s mid new : Parser} {depth : ℕ} {list : List Statement} (made : Statement) → RowSoFar old s depth list → word_of (next s) ≡ None
+pub row_ended : {old s mid new : Parser} {depth : ℕ} {list : List Statement} (made : Statement) → RowSoFar old s depth list → keyword_of (next s) ≡ None
     → Keeps s mid → (mid.fault ≡ None → (mid ≡ s) × (is_end (next s) ≡ true)) → (is_end (next s) ≡ true → mid ≡ s)
-    → Makes mid new (flat made ≡ flat_all list) → Reads (statements_part (scope_of old) depth) old new made
+    → MakesOrLacksMemory mid new (flat made ≡ flat_all list) → HasRead (statements_part (scope_of old) depth) old new made
 row_ended {old} {s} {mid} {new} {depth} {list} made so_far none goes sound_is fits makes = record {
   goes = keeps_on so_far.goes (keeps_on goes (made_goes makes));
   finds = λ x rest sound e may ends.
@@ -285,10 +285,10 @@ row_ended {old} {s} {mid} {new} {depth} {list} made so_far none goes sound_is fi
         let there = one_begins x may.0.one s.rest.now between.0 between.1 in
         absurd (let never : None ≡ Some (first_word x) = sym none ∙ (next_is (first_word x) s.fault s.rest.now sound there ∙ plain_first x may.0.one may.0.plain) in cc)
       where
-        next_is : (v : Word) (fault : Option ParseReason) (here : List Token) → fault ≡ None → begins (piece.Word v) (Some here) ≡ true → word_of (next_of fault here) ≡ word_of (piece.Word v)
+        next_is : (v : Word) (fault : Option ParseReason) (here : List Token) → fault ≡ None → piece_begins (piece.Word v) (Some here) ≡ true → keyword_of (next_of fault here) ≡ keyword_of (piece.Word v)
         next_is v (Some why) here f g = absurd (let never : Some why ≡ None = f in cc)
         next_is v None [] f g = absurd (let never : false ≡ true = g in cc)
-        next_is v None (t ∷ ts) f g = ap word_of (piece_is (piece.Word v) t.piece g)
+        next_is v None (t ∷ ts) f g = ap keyword_of (piece_is (piece.Word v) t.piece g)
 
     by_left : (rest : List Token) → ends_statements rest ≡ true → (s.fault ≡ Some Memory) ⊎ Left s (scope_of old) depth rest → Finds new rest (Unit {0})
     by_left rest ends (inl memory) = inl ((made_goes makes).sticks Memory (goes.sticks Memory memory))

@@ -8,9 +8,9 @@ use Rattle.spmd_text.specs.declared.piece.Piece.{Piece}
 use Rattle.spmd_text.specs.declared.piece.Piece.TheVariants as piece
 use Rattle.spmd_text.specs.declared.piece.Token.{Token}
 use Rattle.spmd_text.specs.parts.Joints.{is_below, joint_of, stops}
-use Rattle.spmd_text.specs.Spelling.{Rest, after, after_optional, after_value, begins, is_piece}
+use Rattle.spmd_text.specs.Spelling.{Rest, after_piece, after_optional, after_value, piece_begins, is_piece}
 use Rattle.spmd_text.specs.declared.parser.Parser.{Parser}
-use Rattle.spmd_text.specs.Limits.{IsWithin}
+use Rattle.spmd_text.specs.Limits.{IsTreeWithin}
 use Rattle.spmd_text.specs.parts.Parts.{lacks, optional_part, piece_part, then_part, value_part}
 use Rattle.spmd_text.specs.Rules.{MayValue}
 use Rattle.spmd_text.proofs.Pieces.{piece_is, taken}
@@ -29,16 +29,16 @@ lacks_tests p t ts = refl
 
 -- where the piece is taken and passes the test
 pub before_piece : (ends : List Token → Bool) (test : Piece → Bool) → Tests ends test → (p : Piece) → test p ≡ true
-    → (here rest : List Token) → after p (Some here) ≡ Some rest → ends here ≡ true
+    → (here rest : List Token) → after_piece p (Some here) ≡ Some rest → ends here ≡ true
 before_piece ends test tests p passes here rest e =
     let t = taken p here rest e in
     ap ends t.here_is ∙ (tests t.token rest ∙ (ap test t.piece_so ∙ passes))
 
 -- what stands behind a piece was spelled behind it
-pub value_behind : (p : Piece) (e : Expression) (here rest : List Token) → after_value e (after p (Some here)) ≡ Some rest → (between : List Token) × (after p (Some here) ≡ Some between)
-value_behind p e here rest f = by_between (after p (Some here)) refl
+pub value_behind : (p : Piece) (e : Expression) (here rest : List Token) → after_value e (after_piece p (Some here)) ≡ Some rest → (between : List Token) × (after_piece p (Some here) ≡ Some between)
+value_behind p e here rest f = by_between (after_piece p (Some here)) refl
   where
-    by_between : (z : Rest) → after p (Some here) ≡ z → (between : List Token) × (after p (Some here) ≡ Some between)
+    by_between : (z : Rest) → after_piece p (Some here) ≡ z → (between : List Token) × (after_piece p (Some here) ≡ Some between)
     by_between None g = absurd (let never : None ≡ Some rest = sym (value_strict e) ∙ (sym (ap (λ (y : Rest). after_value e y) g) ∙ f) in cc)
     by_between (Some between) g = (between, g)
 
@@ -66,17 +66,17 @@ both_true false b e f = e
 
 -- at the end of a line no joint comes, no bracket, no comma, and no word
 pub line_end : (ends : List Token → Bool) (test : Piece → Bool) → Tests ends test → test piece.LineEnd ≡ true
-    → (rest : List Token) → begins piece.LineEnd (Some rest) ≡ true → ends rest ≡ true
+    → (rest : List Token) → piece_begins piece.LineEnd (Some rest) ≡ true → ends rest ≡ true
 line_end ends test tests passes [] e = absurd cc
 line_end ends test tests passes (t ∷ ts) e = tests t ts ∙ (ap test (piece_is piece.LineEnd t.piece e) ∙ passes)
 
-pub value_ends : (rest : List Token) → begins piece.LineEnd (Some rest) ≡ true → stops 4 rest ≡ true
+pub value_ends : (rest : List Token) → piece_begins piece.LineEnd (Some rest) ≡ true → stops 4 rest ≡ true
 value_ends rest e = line_end (stops 4) (λ p. is_below (joint_of p) 4) (stops_tests 4) refl rest e
 
-pub label_ends : (rest : List Token) → begins piece.LineEnd (Some rest) ≡ true → lacks piece.OpenIndex rest ≡ true
+pub label_ends : (rest : List Token) → piece_begins piece.LineEnd (Some rest) ≡ true → lacks piece.OpenIndex rest ≡ true
 label_ends rest e = line_end (lacks piece.OpenIndex) (λ q. not (is_piece piece.OpenIndex q)) (lacks_tests piece.OpenIndex) refl rest e
 
-pub communicator_ends : (rest : List Token) → begins piece.LineEnd (Some rest) ≡ true → (stops 4 rest && lacks (piece.Word word.Comm) rest) ≡ true
+pub communicator_ends : (rest : List Token) → piece_begins piece.LineEnd (Some rest) ≡ true → (stops 4 rest && lacks (piece.Word word.Comm) rest) ≡ true
 communicator_ends rest e =
     both_true (stops 4 rest) (lacks (piece.Word word.Comm) rest) (value_ends rest e)
     (line_end (lacks (piece.Word word.Comm)) (λ q. not (is_piece (piece.Word word.Comm) q)) (lacks_tests (piece.Word word.Comm)) refl rest e)
@@ -85,11 +85,11 @@ pub never_taken : false ≡ true → ⊥
 never_taken e = cc
 
 -- where a piece comes next, it isn't lacking
-pub lacks_not : (p : Piece) (rest : List Token) → begins p (Some rest) ≡ true → lacks p rest ≡ true → ⊥
+pub lacks_not : (p : Piece) (rest : List Token) → piece_begins p (Some rest) ≡ true → lacks p rest ≡ true → ⊥
 lacks_not p rest e f = let never : false ≡ true = sym (ap not e) ∙ f in cc
 
 -- a word and a value are an optional value
-pub optional_as : (old : Parser) (w : Word) (v : Expression) → (old.fault ≡ None → begins (piece.Word w) (Some old.rest.now) ≡ true)
+pub optional_as : (old : Parser) (w : Word) (v : Expression) → (old.fault ≡ None → piece_begins (piece.Word w) (Some old.rest.now) ≡ true)
     → IsAs (then_part (piece_part (piece.Word w)) (value_part old.in_parameter)) (optional_part old.in_parameter w) old (tt {0}, v) (Some v)
 optional_as old w v there = record {
   back = back;
@@ -99,10 +99,10 @@ optional_as old w v there = record {
   where
     back : (o : Option Expression) (rest : List Token) → old.fault ≡ None → MayValue old.in_parameter o
         → after_optional (piece.Word w) o (Some old.rest.now) ≡ Some rest → (stops 4 rest && lacks (piece.Word w) rest) ≡ true
-        → (x : Unit {0} × Expression) × (Unit {0} × IsWithin 32 old.in_parameter x.1) × (after_value x.1 (after (piece.Word w) (Some old.rest.now)) ≡ Some rest) × (stops 4 rest ≡ true) × ((Unit {0} × Unit {0}) → Unit {0})
+        → (x : Unit {0} × Expression) × (Unit {0} × IsTreeWithin 32 old.in_parameter x.1) × (after_value x.1 (after_piece (piece.Word w) (Some old.rest.now)) ≡ Some rest) × (stops 4 rest ≡ true) × ((Unit {0} × Unit {0}) → Unit {0})
     back None rest sound may e ends =
         absurd (lacks_not (piece.Word w) rest
-        (ap (λ (xs : List Token). begins (piece.Word w) (Some xs)) (sym (same_Some old.rest.now rest e)) ∙ there sound)
+        (ap (λ (xs : List Token). piece_begins (piece.Word w) (Some xs)) (sym (same_Some old.rest.now rest e)) ∙ there sound)
         (and_right (stops 4 rest) (lacks (piece.Word w) rest) ends))
     back (Some x) rest sound may e ends = ((tt, x), (tt, may), e, and_left (stops 4 rest) (lacks (piece.Word w) rest) ends, λ same. tt)
 
@@ -111,11 +111,11 @@ optional_as old w v there = record {
 stop_test : Piece → Bool
 stop_test p = is_below (joint_of p) 4
 
-pub comma_stops : (here rest : List Token) → after piece.Comma (Some here) ≡ Some rest → stops 4 here ≡ true
+pub comma_stops : (here rest : List Token) → after_piece piece.Comma (Some here) ≡ Some rest → stops 4 here ≡ true
 unfolding stop_test
 comma_stops here rest e = before_piece (stops 4) stop_test (stops_tests 4) piece.Comma refl here rest e
 
-pub comma_unindexed : (here rest : List Token) → after piece.Comma (Some here) ≡ Some rest → lacks piece.OpenIndex here ≡ true
+pub comma_unindexed : (here rest : List Token) → after_piece piece.Comma (Some here) ≡ Some rest → lacks piece.OpenIndex here ≡ true
 comma_unindexed here rest e =
     before_piece (lacks piece.OpenIndex) (λ q. not (is_piece piece.OpenIndex q)) (lacks_tests piece.OpenIndex) piece.Comma refl here rest e
 
@@ -126,24 +126,24 @@ unfolding stop_test
 word_stops w plain e here rest f ends =
     before_optional (stops 4) stop_test (stops_tests 4) (piece.Word w) plain e here rest f (and_left (stops 4 rest) (lacks (piece.Word w) rest) ends)
 
-pub closing_stops : (here rest : List Token) → after piece.CloseIndex (Some here) ≡ Some rest → stops 4 here ≡ true
+pub closing_stops : (here rest : List Token) → after_piece piece.CloseIndex (Some here) ≡ Some rest → stops 4 here ≡ true
 unfolding stop_test
 closing_stops here rest e = before_piece (stops 4) stop_test (stops_tests 4) piece.CloseIndex refl here rest e
 
-pub to_stops : (here rest : List Token) → after (piece.Word word.To) (Some here) ≡ Some rest → stops 4 here ≡ true
+pub to_stops : (here rest : List Token) → after_piece (piece.Word word.To) (Some here) ≡ Some rest → stops 4 here ≡ true
 unfolding stop_test
 to_stops here rest e = before_piece (stops 4) stop_test (stops_tests 4) (piece.Word word.To) refl here rest e
 
-pub among_stops : (here rest : List Token) → after (piece.Word word.Among) (Some here) ≡ Some rest → stops 4 here ≡ true
+pub among_stops : (here rest : List Token) → after_piece (piece.Word word.Among) (Some here) ≡ Some rest → stops 4 here ≡ true
 unfolding stop_test
 among_stops here rest e = before_piece (stops 4) stop_test (stops_tests 4) (piece.Word word.Among) refl here rest e
 
 -- at the end of a line, or before `comm`
 line_or_comm : (ends : List Token → Bool) (test : Piece → Bool) → Tests ends test → test piece.LineEnd ≡ true → test (piece.Word word.Comm) ≡ true
-    → (c : Option Expression) (here rest : List Token) → after_optional (piece.Word word.Comm) c (Some here) ≡ Some rest → begins piece.LineEnd (Some rest) ≡ true → ends here ≡ true
+    → (c : Option Expression) (here rest : List Token) → after_optional (piece.Word word.Comm) c (Some here) ≡ Some rest → piece_begins piece.LineEnd (Some rest) ≡ true → ends here ≡ true
 line_or_comm ends test tests at_end at_comm c here rest e line = before_optional ends test tests (piece.Word word.Comm) at_comm c here rest e (line_end ends test tests at_end rest line)
 
-pub group_ends : (c : Option Expression) (here rest : List Token) → after_optional (piece.Word word.Comm) c (Some here) ≡ Some rest → begins piece.LineEnd (Some rest) ≡ true
+pub group_ends : (c : Option Expression) (here rest : List Token) → after_optional (piece.Word word.Comm) c (Some here) ≡ Some rest → piece_begins piece.LineEnd (Some rest) ≡ true
     → (stops 4 here && (lacks (piece.Word word.Among) here && lacks (piece.Word word.Step) here)) ≡ true
 unfolding stop_test
 group_ends c here rest e line =
@@ -153,15 +153,15 @@ group_ends c here rest e line =
     (line_or_comm (lacks (piece.Word word.Among)) (λ q. not (is_piece (piece.Word word.Among) q)) (lacks_tests (piece.Word word.Among)) refl refl c here rest e line)
     (line_or_comm (lacks (piece.Word word.Step)) (λ q. not (is_piece (piece.Word word.Step) q)) (lacks_tests (piece.Word word.Step)) refl refl c here rest e line))
 
-pub line_end_stops : (here rest : List Token) → after piece.LineEnd (Some here) ≡ Some rest → stops 4 here ≡ true
+pub line_end_stops : (here rest : List Token) → after_piece piece.LineEnd (Some here) ≡ Some rest → stops 4 here ≡ true
 unfolding stop_test
 line_end_stops here rest e = before_piece (stops 4) stop_test (stops_tests 4) piece.LineEnd refl here rest e
 
-pub line_end_labels : (here rest : List Token) → after piece.LineEnd (Some here) ≡ Some rest → (lacks piece.OpenIndex here && lacks piece.Comma here) ≡ true
+pub line_end_labels : (here rest : List Token) → after_piece piece.LineEnd (Some here) ≡ Some rest → (lacks piece.OpenIndex here && lacks piece.Comma here) ≡ true
 line_end_labels here rest e =
     both_true (lacks piece.OpenIndex here) (lacks piece.Comma here)
     (before_piece (lacks piece.OpenIndex) (λ q. not (is_piece piece.OpenIndex q)) (lacks_tests piece.OpenIndex) piece.LineEnd refl here rest e)
     (before_piece (lacks piece.Comma) (λ q. not (is_piece piece.Comma q)) (lacks_tests piece.Comma) piece.LineEnd refl here rest e)
 
-pub line_end_begins : (here rest : List Token) → after piece.LineEnd (Some here) ≡ Some rest → begins piece.LineEnd (Some here) ≡ true
-line_end_begins here rest e = before_piece (λ xs. begins piece.LineEnd (Some xs)) (is_piece piece.LineEnd) (λ t ts. refl) piece.LineEnd refl here rest e
+pub line_end_begins : (here rest : List Token) → after_piece piece.LineEnd (Some here) ≡ Some rest → piece_begins piece.LineEnd (Some here) ≡ true
+line_end_begins here rest e = before_piece (λ xs. piece_begins piece.LineEnd (Some xs)) (is_piece piece.LineEnd) (λ t ts. refl) piece.LineEnd refl here rest e

@@ -20,13 +20,13 @@ use Rattle.spmd_text.specs.declared.piece.Piece.{Piece}
 use Rattle.spmd_text.specs.declared.piece.Piece.TheVariants as piece
 use Rattle.spmd_text.specs.declared.piece.Word.TheVariants as word
 use Rattle.spmd_text.specs.declared.piece.Token.{Token}
-use Rattle.spmd_text.specs.Spelling.{is_piece, same_number, Rest, only, after, after_expression, fits, is_condition, binding, same}
+use Rattle.spmd_text.specs.Spelling.{is_piece, same_number, Rest, only, after_piece, after_expression, fits_binding, is_condition, binding, same}
 use Rattle.spmd_text.specs.Words.{code}
-use Rattle.spmd_text.specs.parts.Joints.{joint_of, joint_piece, joint_ahead, binding_of, joins_conditions, goes_on, is_lone, Place, joined, left_least, right_least, may_join, is_below, stops}
+use Rattle.spmd_text.specs.parts.Joints.{joint_of, joint_piece, joint_ahead, binding_of, joins_conditions, goes_on, is_lone, Place, joined_parts, left_least, right_least, may_join, is_below, stops}
 use Rattle.spmd_text.specs.Joints.{closeness}
-use Rattle.spmd_text.specs.Limits.{nesting, parts, is_narrow, has_no_rank, IsWithin}
-use Rattle.spmd_text.specs.parts.Growing.{is_operand, is_lone_tree, begun, beginning_of, first_close, leaf_of, enclosed, ends_prefix, inside, IsRow}
-use Rattle.spmd_text.specs.parts.Reading.{next, next_of, behind, Goes}
+use Rattle.spmd_text.specs.Limits.{nesting, parts_in_row, is_narrow, has_no_rank, IsTreeWithin}
+use Rattle.spmd_text.specs.parts.Growing.{is_operand, is_lone_tree, begun, beginning_of, first_close, leaf_of, enclosed, ends_prefix, inside, IsJointRow}
+use Rattle.spmd_text.specs.parts.Reading.{next, next_of, behind_next, Goes}
 use Rattle.spmd_text.specs.parts.Found.{WasRead, WasBegun, SoFar, IsLonger, PutTogether, PutAround, PutChoice}
 use Rattle.spmd_text.proofs.Beginning.{first_row}
 use Rattle.spmd_text.proofs.Continuing.{ahead_so}
@@ -73,7 +73,7 @@ joint_no_end (joint.Between operator.Plus) e = cc
 joint_no_end (joint.Between o) e = cc
 
 -- the joint stands first
-joint_passed : (s : Parser) (j : Joint) → joint_of (next s) ≡ Some j → after (joint_piece j) (Some s.rest.now) ≡ Some (behind s.rest.now)
+joint_passed : (s : Parser) (j : Joint) → joint_of (next s) ≡ Some j → after_piece (joint_piece j) (Some s.rest.now) ≡ Some (behind_next s.rest.now)
 joint_passed s j e = passed s.fault s.rest.now (joint_piece j) (joint_plain j) (joint_no_end j) (joint_so (next s) j e)
 
 -- ---- what may stand at it
@@ -125,28 +125,28 @@ same_self : (b : Bool) → same b b ≡ true
 same_self true = refl
 same_self false = refl
 
-pub fits_from : (a : Expression) (least : ℕ) (condition : Bool) → least ≤ binding a → is_condition a ≡ condition → fits a least condition ≡ true
+pub fits_from : (a : Expression) (least : ℕ) (condition : Bool) → least ≤ binding a → is_condition a ≡ condition → fits_binding a least condition ≡ true
 fits_from a least condition h e =
     let low : nat_le least (binding a) ≡ true = grind (arith, nat_tests) in
     and_from (nat_le least (binding a)) (same condition (is_condition a)) low (ap (same condition) e ∙ same_self condition)
 
 within_both : (depth : ℕ) (in_parameter : Bool) (j : Joint) (p : Place) (a : Expression) (q : Place) (b : Expression)
-    → IsWithin depth in_parameter a → IsWithin depth in_parameter b → parts (joined j p a q b) ≤ 256 → IsWithin depth in_parameter (joined j p a q b)
+    → IsTreeWithin depth in_parameter a → IsTreeWithin depth in_parameter b → parts_in_row (joined_parts j p a q b) ≤ 256 → IsTreeWithin depth in_parameter (joined_parts j p a q b)
 within_both depth in_parameter j p a q b v w few =
-    let short : nat_le (parts (joined j p a q b)) 256 ≡ true = grind (arith, nat_tests) in
+    let short : nat_le (parts_in_row (joined_parts j p a q b)) 256 ≡ true = grind (arith, nat_tests) in
     record {
       nested = omega (arith, v.nested, w.nested, nesting_joined j p a q b);
-      narrow = narrow_joined j p a q b ∙ and_from (nat_le (parts (joined j p a q b)) 256 && is_narrow a) (is_narrow b) (and_from (nat_le (parts (joined j p a q b)) 256) (is_narrow a) short v.narrow) w.narrow;
+      narrow = narrow_joined j p a q b ∙ and_from (nat_le (parts_in_row (joined_parts j p a q b)) 256 && is_narrow a) (is_narrow b) (and_from (nat_le (parts_in_row (joined_parts j p a q b)) 256) (is_narrow a) short v.narrow) w.narrow;
       rankless = λ f. rankless_joined j p a q b ∙ and_from (has_no_rank a) (has_no_rank b) (v.rankless f) (w.rankless f);
     }
 
-number_joined : (j : Joint) (p : Place) (a : Expression) (q : Place) (b : Expression) → 4 ≤ binding_of j → is_condition (joined j p a q b) ≡ false
+number_joined : (j : Joint) (p : Place) (a : Expression) (q : Place) (b : Expression) → 4 ≤ binding_of j → is_condition (joined_parts j p a q b) ≡ false
 number_joined joint.Or p a q b h = absurd (omega (arith, h))
 number_joined joint.And p a q b h = absurd (omega (arith, h))
 number_joined (joint.Compared c) p a q b h = absurd (omega (arith, h))
 number_joined (joint.Between o) p a q b h = refl
 
-pub no_choice : (j : Joint) (p : Place) (a : Expression) (q : Place) (b : Expression) → binding (joined j p a q b) ≡ 4 → ⊥
+pub no_choice : (j : Joint) (p : Place) (a : Expression) (q : Place) (b : Expression) → binding (joined_parts j p a q b) ≡ 4 → ⊥
 no_choice joint.Or p a q b e = omega (arith, e)
 no_choice joint.And p a q b e = omega (arith, e)
 no_choice (joint.Compared c) p a q b e = omega (arith, e)
@@ -207,9 +207,9 @@ ended_stops None (t ∷ ts) row least close sound e h low stop none = ended_belo
 pub one_more : (here : List Token) (s s2 s3 s4 s5 : Parser) (left right made : Expression) (row longer : Row) (j : Joint) (least depth close : ℕ) (kind : Bool) (found : Option Joint)
     → s5.fault ≡ None
     → found ≡ joint_ahead (joint_of (next s)) row.binding least → found ≡ Some j
-    → ((a b : Expression) (p q : Place) → IsRow row a → IsLonger row longer j p a q b)
+    → ((a b : Expression) (p q : Place) → IsJointRow row a → IsLonger row longer j p a q b)
     → kind ≡ joins_conditions j → Goes s s2 → (s2.fault ≡ None → (s2 ≡ s) × (is_condition left ≡ kind))
-    → s3.rest.now ≡ behind s2.rest.now → Goes s2 s3
+    → s3.rest.now ≡ behind_next s2.rest.now → Goes s2 s3
     → close ≡ binding_of j → close ≤ 5
     → (s4.fault ≡ None → close + 1 ≤ 6 → WasRead s3.rest.now s3.in_parameter s4 (close + 1) depth right) → Goes s3 s4
     → (s5.fault ≡ None → PutTogether s4 s5 j left right made) → Goes s4 s5
@@ -229,20 +229,20 @@ one_more here s s2 s3 s4 s5 left right made row longer j least depth close kind 
     let choice : binding left ≡ 4 → binding_of j < 4 = λ e. below_choice s j ahead.0 (so.choice e) in
     let left_fit = fits_from left (left_least j) (joins_conditions j) (left_fits j left low alone choice long.joint_so long.left_so) (wanted.1 ∙ kind_is) in
     let right_fit = fits_from right (right_least j) (joins_conditions j) (right_fits j right (omega (arith, was.close, close_is))) together.kind in
-    let joins = and_from (fits left (left_least j) (joins_conditions j)) (fits right (right_least j) (joins_conditions j)) left_fit right_fit in
-    let begins : after (joint_piece j) (Some s.rest.now) ≡ Some s3.rest.now =
-    joint_passed s j ahead.0 ∙ ap (λ (x : List Token). Some x) (sym (behind_is ∙ ap (λ (u : Parser). behind u.rest.now) wanted.0)) in
+    let joins = and_from (fits_binding left (left_least j) (joins_conditions j)) (fits_binding right (right_least j) (joins_conditions j)) left_fit right_fit in
+    let begins : after_piece (joint_piece j) (Some s.rest.now) ≡ Some s3.rest.now =
+    joint_passed s j ahead.0 ∙ ap (λ (x : List Token). Some x) (sym (behind_is ∙ ap (λ (u : Parser). behind_next u.rest.now) wanted.0)) in
     let kind3 = same_kind s s3 (goes_further s s2 s3 goes2 goes3) in
     let kind5 = same_kind s s5 (goes_further s s3 s5 (goes_further s s2 s3 goes2 goes3) (goes_further s3 s4 s5 goes4 goes5)) in
-    let tree = joined j together.p left together.q right in
+    let tree = joined_parts j together.p left together.q right in
     let joined_close = closeness_joined j together.p left together.q right in
     let spelled : after_expression tree (Some here) ≡ Some s4.rest.now =
     spelled_joined j together.p left together.q right (Some here)
-    ∙ (ap (λ (x : Rest). only (may_join j left right) (after_expression right (after (joint_piece j) x))) so.spelled
+    ∙ (ap (λ (x : Rest). only (may_join j left right) (after_expression right (after_piece (joint_piece j) x))) so.spelled
     ∙ (ap (λ (x : Rest). only (may_join j left right) (after_expression right x)) begins
     ∙ (ap (λ (x : Rest). only (may_join j left right) x) was.spelled ∙ ap (λ (b : Bool). only b (Some s4.rest.now)) joins))) in
     put_so_far here s4 s5 tree made longer least depth s.in_parameter together.is together.same kind5 spelled
-    (within_both depth s.in_parameter j together.p left together.q right so.within (subst (λ (k : Bool). IsWithin depth k right) kind3 was.within) long.few)
+    (within_both depth s.in_parameter j together.p left together.q right so.within (subst (λ (k : Bool). IsTreeWithin depth k right) kind3 was.within) long.few)
     long.row_so
     (omega (arith, ahead.1, joined_close))
     (λ h. number_joined j together.p left together.q right (omega (arith, h, ahead.1)))
@@ -253,12 +253,12 @@ one_more here s s2 s3 s4 s5 left right made row longer j least depth close kind 
     below_choice s j e stop = below_choice_at s.fault s.rest.now j e stop
 
     put_so_far : (here : List Token) (s4 s5 : Parser) (tree made : Expression) (longer : Row) (least depth : ℕ) (in_parameter : Bool) → made ≡ tree → s5 ≡ s4 → s5.in_parameter ≡ in_parameter
-        → after_expression tree (Some here) ≡ Some s4.rest.now → IsWithin depth in_parameter tree → IsRow longer tree → least ≤ closeness tree → (4 ≤ least → is_condition tree ≡ false)
+        → after_expression tree (Some here) ≡ Some s4.rest.now → IsTreeWithin depth in_parameter tree → IsJointRow longer tree → least ≤ closeness tree → (4 ≤ least → is_condition tree ≡ false)
         → (4 ≤ closeness tree → stops (closeness tree + 1) s4.rest.now ≡ true) → (binding tree ≡ 4 → ⊥) → SoFar here s5 made longer least depth
     put_so_far here s4 s5 tree made longer least depth in_parameter is same kind spelled within row_so close number ends choice =
         subst (λ (x : Expression). SoFar here s5 x longer least depth) (sym is) (record {
           spelled = spelled ∙ ap (λ (u : Parser). Some u.rest.now) (sym same);
-          within = subst (λ (k : Bool). IsWithin depth k tree) (sym kind) within;
+          within = subst (λ (k : Bool). IsTreeWithin depth k tree) (sym kind) within;
           row_so = row_so;
           close = close;
           number = number;
@@ -274,7 +274,7 @@ pub read_to_end : (here : List Token) (s : Parser) (in_parameter : Bool) (left :
     → SoFar here s left row least depth → WasRead here in_parameter s least depth left
 read_to_end here s in_parameter left row least depth found sound kind is none so = record {
   spelled = so.spelled;
-  within = subst (λ (k : Bool). IsWithin depth k left) kind so.within;
+  within = subst (λ (k : Bool). IsTreeWithin depth k left) kind so.within;
   close = so.close;
   number = so.number;
   ends = λ h. ended_stops s.fault s.rest.now row.binding least (closeness left) sound so.row_so.close h so.close (so.ends (omega (arith, h, so.close))) (λ j e. none j (is ∙ e));
@@ -367,13 +367,13 @@ leaf_read (piece.Word word.Rank) a e =
     })
 leaf_read p a e = absurd cc
 
-leaf_taken : (fault : Option ParseReason) (here : List Token) (p : Piece) (a : Expression) → LeafRead p a → next_of fault here ≡ p → after_expression a (Some here) ≡ Some (behind here)
+leaf_taken : (fault : Option ParseReason) (here : List Token) (p : Piece) (a : Expression) → LeafRead p a → next_of fault here ≡ p → after_expression a (Some here) ≡ Some (behind_next here)
 leaf_taken (Some why) here p a l e = absurd (l.no_end (sym e))
 leaf_taken None [] p a l e = absurd (l.no_end (sym e))
 leaf_taken None (t ∷ ts) p a l e = l.taken t ts e
 
 -- the next piece was taken as a tree
-pub leaf_begun : (old new : Parser) (a : Expression) (least depth : ℕ) → leaf_of (next old) ≡ Some a → new.rest.now ≡ behind old.rest.now
+pub leaf_begun : (old new : Parser) (a : Expression) (least depth : ℕ) → leaf_of (next old) ≡ Some a → new.rest.now ≡ behind_next old.rest.now
     → (old.in_parameter ≡ true → next old ≡ piece.Word word.Rank → ⊥) → WasBegun old new beginning.Leaf least depth a
 leaf_begun old new a least depth e left rank =
     let l = leaf_read (next old) a e in
@@ -417,7 +417,7 @@ begins_prefix (piece.Word word.If) least kind e = go (nat_le least 4) e
     go false g = absurd cc
 begins_prefix p least kind e = absurd cc
 
-prefix_passed : (s : Parser) (kind : Prefix) → next s ≡ prefix_piece kind → after (prefix_piece kind) (Some s.rest.now) ≡ Some (behind s.rest.now)
+prefix_passed : (s : Parser) (kind : Prefix) → next s ≡ prefix_piece kind → after_piece (prefix_piece kind) (Some s.rest.now) ≡ Some (behind_next s.rest.now)
 unfolding prefix_piece is_plain
 prefix_passed s prefix.Not e = passed s.fault s.rest.now (piece.Word word.Not) refl (λ f. cc) e
 prefix_passed s prefix.Minus e = passed s.fault s.rest.now piece.Minus refl (λ f. cc) e
@@ -425,7 +425,7 @@ prefix_passed s prefix.Parentheses e = passed s.fault s.rest.now piece.Open refl
 
 pub record Around (here rest : List Token) (in_parameter : Bool) (kind : Prefix) (least depth : ℕ) (made : Expression) : Type 0 where
   pub spelled : after_expression made (Some here) ≡ Some rest
-  pub within : IsWithin depth in_parameter made
+  pub within : IsTreeWithin depth in_parameter made
   pub number : 4 ≤ least → is_condition made ≡ false
   pub operand : is_operand made ≡ true
   pub begun_so : beginning.Prefix kind ≡ begun made
@@ -443,13 +443,13 @@ inside_four : (least : ℕ) → 4 ≤ least → 4 ≤ inside prefix.Parentheses 
 inside_four least h = let on : nat_le 4 least ≡ true = grind (arith, nat_tests) in omega (arith, ap {B = ℕ} (λ (b : Bool). if b then 4 else 0) on)
 
 around : (kind : Prefix) (here next mid rest : List Token) (in_parameter : Bool) (least depth : ℕ) (inner : Expression) (p : Place)
-    → after (prefix_piece kind) (Some here) ≡ Some next → after_expression inner (Some next) ≡ Some mid → IsWithin (depth - 1) in_parameter inner → 0 < depth
+    → after_piece (prefix_piece kind) (Some here) ≡ Some next → after_expression inner (Some next) ≡ Some mid → IsTreeWithin (depth - 1) in_parameter inner → 0 < depth
     → inside kind least ≤ closeness inner → (4 ≤ inside kind least → is_condition inner ≡ false) → ends_prefix kind inner mid rest → (kind ≡ prefix.Not → least ≤ 2)
     → Around here rest in_parameter kind least depth (enclosed kind p inner)
 unfolding prefix_piece
 around prefix.Not here next mid rest in_parameter least depth inner p begins spelled w deep close number ends low = record {
-  spelled = ap (λ (x : Rest). only (fits inner 2 true) (after_expression inner x)) begins
-      ∙ (ap (only (fits inner 2 true)) spelled ∙ (ap (λ (b : Bool). only b (Some mid)) (fits_from inner 2 true (least_so inner close) ends.1) ∙ ap (λ (x : List Token). Some x) ends.0));
+  spelled = ap (λ (x : Rest). only (fits_binding inner 2 true) (after_expression inner x)) begins
+      ∙ (ap (only (fits_binding inner 2 true)) spelled ∙ (ap (λ (b : Bool). only b (Some mid)) (fits_from inner 2 true (least_so inner close) ends.1) ∙ ap (λ (x : List Token). Some x) ends.0));
   within = record { nested = omega (arith, w.nested, deep); narrow = w.narrow; rankless = w.rankless };
   number = λ h. absurd (omega (arith, h, low refl));
   operand = refl;
@@ -457,8 +457,8 @@ around prefix.Not here next mid rest in_parameter least depth inner p begins spe
   no_choice_so = λ e. omega (arith, e);
 }
 around prefix.Minus here next mid rest in_parameter least depth inner p begins spelled w deep close number ends low = record {
-  spelled = ap (λ (x : Rest). only (fits inner 8 false) (after_expression inner x)) begins
-      ∙ (ap (only (fits inner 8 false)) spelled ∙ (ap (λ (b : Bool). only b (Some mid)) (fits_from inner 8 false (factor_so inner close) ends.1) ∙ ap (λ (x : List Token). Some x) ends.0));
+  spelled = ap (λ (x : Rest). only (fits_binding inner 8 false) (after_expression inner x)) begins
+      ∙ (ap (only (fits_binding inner 8 false)) spelled ∙ (ap (λ (b : Bool). only b (Some mid)) (fits_from inner 8 false (factor_so inner close) ends.1) ∙ ap (λ (x : List Token). Some x) ends.0));
   within = record { nested = omega (arith, w.nested, deep); narrow = w.narrow; rankless = w.rankless };
   number = λ h. refl;
   operand = refl;
@@ -466,7 +466,7 @@ around prefix.Minus here next mid rest in_parameter least depth inner p begins s
   no_choice_so = λ e. omega (arith, e);
 }
 around prefix.Parentheses here next mid rest in_parameter least depth inner p begins spelled w deep close number ends low = record {
-  spelled = ap (λ (x : Rest). after piece.Close (after_expression inner x)) begins ∙ (ap (after piece.Close) spelled ∙ ends);
+  spelled = ap (λ (x : Rest). after_piece piece.Close (after_expression inner x)) begins ∙ (ap (after_piece piece.Close) spelled ∙ ends);
   within = record { nested = omega (arith, w.nested, deep); narrow = w.narrow; rankless = w.rankless };
   number = λ h. number (inside_four least h);
   operand = refl;
@@ -485,7 +485,7 @@ inside_most prefix.Parentheses least = go (nat_le 4 least)
 
 pub prefix_begun : (old s m new : Parser) (kind : Prefix) (least depth close : ℕ) (inner made : Expression)
     → new.fault ≡ None → beginning.Prefix kind ≡ beginning_of (next old) least → 0 < depth
-    → s.rest.now ≡ behind old.rest.now → Goes old s → close ≡ inside kind least
+    → s.rest.now ≡ behind_next old.rest.now → Goes old s → close ≡ inside kind least
     → (m.fault ≡ None → close ≤ 6 → WasRead s.rest.now s.in_parameter m close (depth - 1) inner)
     → (new.fault ≡ None → PutAround m new kind inner made) → Goes m new → WasBegun old new (beginning.Prefix kind) least depth made
 prefix_begun old s m new kind least depth close inner made sound begins deep left goes close_is read put goes2 =
@@ -495,7 +495,7 @@ prefix_begun old s m new kind least depth close inner made sound begins deep lef
     let same = same_kind old s goes in
     let a = around kind old.rest.now s.rest.now m.rest.now new.rest.now old.in_parameter least depth inner put_so.p
     (prefix_passed old kind b.piece_so ∙ ap (λ (x : List Token). Some x) (sym left)) was.spelled
-    (subst (λ (k : Bool). IsWithin (depth - 1) k inner) same was.within) deep (omega (arith, was.close, close_is)) (λ h. was.number (omega (arith, h, close_is))) put_so.ends b.low in
+    (subst (λ (k : Bool). IsTreeWithin (depth - 1) k inner) same was.within) deep (omega (arith, was.close, close_is)) (λ h. was.number (omega (arith, h, close_is))) put_so.ends b.low in
     subst (λ (x : Expression). WasBegun old new (beginning.Prefix kind) least depth x) (sym put_so.is) (record {
       spelled = a.spelled;
       within = a.within;
@@ -516,32 +516,32 @@ begins_choice (piece.Word word.Not) least e = go (nat_le least 2) e
     go false g = absurd cc
 begins_choice p least e = absurd cc
 
-pub number_fits : (a : Expression) → 4 ≤ closeness a → is_condition a ≡ false → fits a 4 false ≡ true
+pub number_fits : (a : Expression) → 4 ≤ closeness a → is_condition a ≡ false → fits_binding a 4 false ≡ true
 unfolding scale
 number_fits a h e = let low : 4 ≤ binding a = omega (arith, h, scaled a) in fits_from a 4 false low e
 
 choice_spelled : (p : Place) (c : Expression) (q : Place) (a : Expression) (s : Place) (b : Expression) (here n1 m1 n2 m2 n3 rest : List Token)
-    → after (piece.Word word.If) (Some here) ≡ Some n1 → after_expression c (Some n1) ≡ Some m1 → after (piece.Word word.Then) (Some m1) ≡ Some n2 → after_expression a (Some n2) ≡ Some m2
-    → after (piece.Word word.Else) (Some m2) ≡ Some n3 → after_expression b (Some n3) ≡ Some rest → fits c 0 true ≡ true → fits a 4 false ≡ true → fits b 4 false ≡ true
+    → after_piece (piece.Word word.If) (Some here) ≡ Some n1 → after_expression c (Some n1) ≡ Some m1 → after_piece (piece.Word word.Then) (Some m1) ≡ Some n2 → after_expression a (Some n2) ≡ Some m2
+    → after_piece (piece.Word word.Else) (Some m2) ≡ Some n3 → after_expression b (Some n3) ≡ Some rest → fits_binding c 0 true ≡ true → fits_binding a 4 false ≡ true → fits_binding b 4 false ≡ true
     → after_expression (form.Choice' p c q a s b) (Some here) ≡ Some rest
 choice_spelled p c q a s b here n1 m1 n2 m2 n3 rest e1 e2 e3 e4 e5 e6 f1 f2 f3 =
-    let fit : Bool = fits c 0 true && fits a 4 false && fits b 4 false in
-    ap (λ (x : Rest). only fit (after_expression b (after (piece.Word word.Else) (after_expression a (after (piece.Word word.Then) (after_expression c x)))))) e1
-    ∙ (ap (λ (x : Rest). only fit (after_expression b (after (piece.Word word.Else) (after_expression a (after (piece.Word word.Then) x))))) e2
-    ∙ (ap (λ (x : Rest). only fit (after_expression b (after (piece.Word word.Else) (after_expression a x)))) e3
-    ∙ (ap (λ (x : Rest). only fit (after_expression b (after (piece.Word word.Else) x))) e4
+    let fit : Bool = fits_binding c 0 true && fits_binding a 4 false && fits_binding b 4 false in
+    ap (λ (x : Rest). only fit (after_expression b (after_piece (piece.Word word.Else) (after_expression a (after_piece (piece.Word word.Then) (after_expression c x)))))) e1
+    ∙ (ap (λ (x : Rest). only fit (after_expression b (after_piece (piece.Word word.Else) (after_expression a (after_piece (piece.Word word.Then) x))))) e2
+    ∙ (ap (λ (x : Rest). only fit (after_expression b (after_piece (piece.Word word.Else) (after_expression a x)))) e3
+    ∙ (ap (λ (x : Rest). only fit (after_expression b (after_piece (piece.Word word.Else) x))) e4
     ∙ (ap (λ (x : Rest). only fit (after_expression b x)) e5
     ∙ (ap (λ (x : Rest). only fit x) e6
-    ∙ ap (λ (t : Bool). only t (Some rest)) (and_from (fits c 0 true && fits a 4 false) (fits b 4 false) (and_from (fits c 0 true) (fits a 4 false) f1 f2) f3))))))
+    ∙ ap (λ (t : Bool). only t (Some rest)) (and_from (fits_binding c 0 true && fits_binding a 4 false) (fits_binding b 4 false) (and_from (fits_binding c 0 true) (fits_binding a 4 false) f1 f2) f3))))))
 
 pub choice_begun : (old s0 s1 s2 s3 s4 s5 s6 new : Parser) (c a b made : Expression) (least depth : ℕ)
     → new.fault ≡ None → beginning.Choice ≡ beginning_of (next old) least → 0 < depth
-    → s0.rest.now ≡ behind old.rest.now → Goes old s0
+    → s0.rest.now ≡ behind_next old.rest.now → Goes old s0
     → (s1.fault ≡ None → 0 ≤ 6 → WasRead s0.rest.now s0.in_parameter s1 0 (depth - 1) c) → Goes s0 s1
     → (s2.fault ≡ None → (s2 ≡ s1) × (is_condition c ≡ true)) → Goes s1 s2
-    → (s3.fault ≡ None → (nat_eq (code (next s2)) (code (piece.Word word.Then)) ≡ true) × (s3.rest.now ≡ behind s2.rest.now)) → Goes s2 s3
+    → (s3.fault ≡ None → (nat_eq (code (next s2)) (code (piece.Word word.Then)) ≡ true) × (s3.rest.now ≡ behind_next s2.rest.now)) → Goes s2 s3
     → (s4.fault ≡ None → 4 ≤ 6 → WasRead s3.rest.now s3.in_parameter s4 4 (depth - 1) a) → Goes s3 s4
-    → (s5.fault ≡ None → (nat_eq (code (next s4)) (code (piece.Word word.Else)) ≡ true) × (s5.rest.now ≡ behind s4.rest.now)) → Goes s4 s5
+    → (s5.fault ≡ None → (nat_eq (code (next s4)) (code (piece.Word word.Else)) ≡ true) × (s5.rest.now ≡ behind_next s4.rest.now)) → Goes s4 s5
     → (s6.fault ≡ None → 4 ≤ 6 → WasRead s5.rest.now s5.in_parameter s6 4 (depth - 1) b) → Goes s5 s6
     → (new.fault ≡ None → PutChoice s6 new c a b made) → Goes s6 new → WasBegun old new beginning.Choice least depth made
 unfolding is_plain
@@ -561,14 +561,14 @@ choice_begun old s0 s1 s2 s3 s4 s5 s6 new c a b made least depth sound begins de
     let r7 = put sound in
     let g03 = goes_further old s0 s3 g0 (goes_further s0 s1 s3 g1 (goes_further s1 s2 s3 g2 g3)) in
     let g05 = goes_further old s3 s5 g03 (goes_further s3 s4 s5 g4 g5) in
-    let in0 : IsWithin (depth - 1) old.in_parameter c = subst (λ (k : Bool). IsWithin (depth - 1) k c) (same_kind old s0 g0) r1.within in
-    let in3 : IsWithin (depth - 1) old.in_parameter a = subst (λ (k : Bool). IsWithin (depth - 1) k a) (same_kind old s3 g03) r4.within in
-    let in5 : IsWithin (depth - 1) old.in_parameter b = subst (λ (k : Bool). IsWithin (depth - 1) k b) (same_kind old s5 g05) r6.within in
-    let e1 : after (piece.Word word.If) (Some old.rest.now) ≡ Some s0.rest.now =
+    let in0 : IsTreeWithin (depth - 1) old.in_parameter c = subst (λ (k : Bool). IsTreeWithin (depth - 1) k c) (same_kind old s0 g0) r1.within in
+    let in3 : IsTreeWithin (depth - 1) old.in_parameter a = subst (λ (k : Bool). IsTreeWithin (depth - 1) k a) (same_kind old s3 g03) r4.within in
+    let in5 : IsTreeWithin (depth - 1) old.in_parameter b = subst (λ (k : Bool). IsTreeWithin (depth - 1) k b) (same_kind old s5 g05) r6.within in
+    let e1 : after_piece (piece.Word word.If) (Some old.rest.now) ≡ Some s0.rest.now =
     passed old.fault old.rest.now (piece.Word word.If) refl (λ f. cc) (begins_choice (next old) least begins) ∙ ap (λ (x : List Token). Some x) (sym left0) in
-    let e3 : after (piece.Word word.Then) (Some s2.rest.now) ≡ Some s3.rest.now =
+    let e3 : after_piece (piece.Word word.Then) (Some s2.rest.now) ≡ Some s3.rest.now =
     passed_code s2.fault s2.rest.now (piece.Word word.Then) refl (λ f. cc) r3.0 ∙ ap (λ (x : List Token). Some x) (sym r3.1) in
-    let e5 : after (piece.Word word.Else) (Some s4.rest.now) ≡ Some s5.rest.now =
+    let e5 : after_piece (piece.Word word.Else) (Some s4.rest.now) ≡ Some s5.rest.now =
     passed_code s4.fault s4.rest.now (piece.Word word.Else) refl (λ f. cc) r5.0 ∙ ap (λ (x : List Token). Some x) (sym r5.1) in
     let r2_rest : Some s1.rest.now ≡ Some s2.rest.now = ap (λ (u : Parser). Some u.rest.now) (sym r2.0) in
     let r7_rest : Some s6.rest.now ≡ Some new.rest.now = ap (λ (u : Parser). Some u.rest.now) (sym r7.same) in
@@ -651,7 +651,7 @@ so_far_begun old mid b row least depth a begun goes is row_is most =
     let low = close_begun (next old) least b is most in
     record {
       spelled = begun.spelled;
-      within = subst (λ (k : Bool). IsWithin depth k a) (sym (same_kind old mid goes)) begun.within;
+      within = subst (λ (k : Bool). IsTreeWithin depth k a) (sym (same_kind old mid goes)) begun.within;
       row_so = row_so;
       close = omega (arith, low, row_so.close, ap (λ (r : Row). r.binding) row_is);
       number = begun.number;

@@ -20,7 +20,7 @@ use Rattle.spmd_text.specs.declared.piece.Word.TheVariants as word
 use Rattle.spmd_text.specs.declared.piece.Piece.{Piece}
 use Rattle.spmd_text.specs.declared.piece.Piece.TheVariants as piece
 use Rattle.spmd_text.specs.declared.piece.Token.{Token}
-use Rattle.spmd_text.specs.Spelling.{Rest, after, after_arguments, after_communicator, after_condition, after_expression, after_group, after_index, after_label, after_labels, after_optional, after_request, after_root, after_start, after_value, after_wild, comparison_piece, is_piece, only, operator_piece}
+use Rattle.spmd_text.specs.Spelling.{Rest, after_piece, after_arguments, after_communicator, after_condition, after_expression, after_group, after_index, after_label, after_labels, after_optional, after_request, after_root, after_start, after_value, after_wild, comparison_piece, is_piece, only, operator_piece}
 use Rattle.spmd_text.specs.parts.Lines.{has_text_end, is_text_end}
 use Rattle.spmd_text.specs.Lines.{closes, is_line}
 use Rattle.spmd_text.proofs.NoStar.{left_before, only_left}
@@ -109,10 +109,10 @@ framed_only {f} b one = record { strict = ap (only b) one.strict ∙ only_none b
         }
 
 -- a piece that ends no line
-pub framed_piece : (p : Piece) → closes p ≡ false → Framed (after p)
+pub framed_piece : (p : Piece) → closes p ≡ false → Framed (after_piece p)
 framed_piece p opens = record { strict = refl; held = held }
   where
-    held : (here rest : List Token) → after p (Some here) ≡ Some rest → Held (after p) here rest
+    held : (here rest : List Token) → after_piece p (Some here) ≡ Some rest → Held (after_piece p) here rest
     held [] rest e = absurd (none_some rest e)
     held (t ∷ ts) rest e =
         let o = only_left (is_piece p t.piece) (Some ts) rest e in
@@ -130,15 +130,15 @@ framed_start line w = record { strict = refl; held = held }
     held : (here rest : List Token) → after_start line w (Some here) ≡ Some rest → Held (after_start line w) here rest
     held [] rest e = absurd (none_some rest e)
     held (t ∷ ts) rest e =
-        let b = left_before (after (piece.Word w)) refl (only (nat_eq t.line line) (Some (t ∷ ts))) rest e in
+        let b = left_before (after_piece (piece.Word w)) refl (only (nat_eq t.line line) (Some (t ∷ ts))) rest e in
         let l = only_left (nat_eq t.line line) (Some (t ∷ ts)) b.0 b.1 in
-        let o = only_left (is_piece (piece.Word w) t.piece) (Some ts) rest (ap (after (piece.Word w)) (l.1 ∙ sym b.1) ∙ e) in
+        let o = only_left (is_piece (piece.Word w) t.piece) (Some ts) rest (ap (after_piece (piece.Word w)) (l.1 ∙ sym b.1) ∙ e) in
         record {
           read = t ∷ [];
           split = ap (λ (xs : List Token). t ∷ xs) (same_Some ts rest o.1);
           opens = one_before t (ap closes (piece_is (piece.Word w) t.piece o.0));
           alone = λ other.
-              ap (λ (k : Bool). after (piece.Word w) (only k (Some (t ∷ other)))) l.0 ∙ ap (λ (k : Bool). only k (Some other)) o.0;
+              ap (λ (k : Bool). after_piece (piece.Word w) (only k (Some (t ∷ other)))) l.0 ∙ ap (λ (k : Bool). only k (Some other)) o.0;
         }
 
 -- ---- expressions
@@ -161,7 +161,7 @@ comparison_open comparison.UpTo = refl
 comparison_open comparison.Above = refl
 comparison_open comparison.From = refl
 
-pub framed_word : (w : Word) → Framed (after (piece.Word w))
+pub framed_word : (w : Word) → Framed (after_piece (piece.Word w))
 framed_word w = framed_piece (piece.Word w) refl
 
 pub framed_expression : (e : Expression) → Framed (after_expression e)
@@ -195,7 +195,7 @@ framed_optional p opens (Some e) = framed_on (framed_piece p opens) (framed_valu
 
 -- ---- calls
 
-framed_comma : Framed (after piece.Comma)
+framed_comma : Framed (after_piece piece.Comma)
 framed_comma = framed_piece piece.Comma refl
 
 framed_index : (e : Option Expression) → Framed (after_index e)
@@ -231,7 +231,7 @@ framed_labels (Last f) = framed_label f
 framed_labels (More' f p others) = framed_on (framed_on (framed_label f) framed_comma) (framed_labels others)
 
 -- two parts with a comma between them
-pub framed_pair : {f g : Rest → Rest} → Framed f → Framed g → Framed (λ z. g (after piece.Comma (f z)))
+pub framed_pair : {f g : Rest → Rest} → Framed f → Framed g → Framed (λ z. g (after_piece piece.Comma (f z)))
 framed_pair one other = framed_on (framed_on one framed_comma) other
 
 pub framed_arguments : (c : Arguments) → Framed (after_arguments c)

@@ -10,10 +10,10 @@ use Rattle.spmd_text.specs.declared.joints.Joint.{Joint}
 use Rattle.spmd_text.specs.declared.joints.Joint.TheVariants as joint
 use Rattle.spmd_text.specs.declared.piece.Piece.{Piece}
 use Rattle.spmd_text.specs.declared.piece.Token.{Token}
-use Rattle.spmd_text.specs.Spelling.{Rest, only, after, after_expression, is_condition, binding, same, fits}
-use Rattle.spmd_text.specs.parts.Joints.{joint_of, joint_piece, binding_of, joins_conditions, Place, joined, left_least, right_least, may_join, is_below, stops, goes_on}
+use Rattle.spmd_text.specs.Spelling.{Rest, only, after_piece, after_expression, is_condition, binding, same, fits_binding}
+use Rattle.spmd_text.specs.parts.Joints.{joint_of, joint_piece, binding_of, joins_conditions, Place, joined_parts, left_least, right_least, may_join, is_below, stops, goes_on}
 use Rattle.spmd_text.specs.Joints.{closeness}
-use Rattle.spmd_text.specs.Limits.{nesting, parts, row_of, is_narrow, has_no_rank, IsWithin}
+use Rattle.spmd_text.specs.Limits.{nesting, parts_in_row, parts_with_joint, is_narrow, has_no_rank, IsTreeWithin}
 use Rattle.spmd_text.specs.parts.Growing.{is_operand, whole, Becomes, done, more}
 use Rattle.spmd_text.proofs.Pieces.{taken}
 
@@ -42,7 +42,7 @@ pub some_before : (e : Expression) (x : Rest) (rest : List Token) → after_expr
 some_before e None rest is = absurd (let never : None ≡ Some rest = sym (strict e) ∙ is in cc)
 some_before e (Some here) rest is = (here, refl)
 
-pub some_before_piece : (p : Piece) (x : Rest) (rest : List Token) → after p x ≡ Some rest → (here : List Token) × (x ≡ Some here)
+pub some_before_piece : (p : Piece) (x : Rest) (rest : List Token) → after_piece p x ≡ Some rest → (here : List Token) × (x ≡ Some here)
 some_before_piece p None rest is = absurd cc
 some_before_piece p (Some here) rest is = (here, refl)
 
@@ -59,8 +59,8 @@ pub record From (x : Rest) (go : Rest → Rest) (rest : List Token) : Type 0 whe
 pub from_tree : (e : Expression) (x : Rest) (rest : List Token) → after_expression e x ≡ Some rest → From x (after_expression e) rest
 from_tree e x rest is = let b = some_before e x rest is in record { here = b.0; is = b.1; so = ap (after_expression e) (sym b.1) ∙ is }
 
-pub from_piece : (p : Piece) (x : Rest) (rest : List Token) → after p x ≡ Some rest → From x (after p) rest
-from_piece p x rest is = let b = some_before_piece p x rest is in record { here = b.0; is = b.1; so = ap (after p) (sym b.1) ∙ is }
+pub from_piece : (p : Piece) (x : Rest) (rest : List Token) → after_piece p x ≡ Some rest → From x (after_piece p) rest
+from_piece p x rest is = let b = some_before_piece p x rest is in record { here = b.0; is = b.1; so = ap (after_piece p) (sym b.1) ∙ is }
 
 -- ---- the scales
 
@@ -133,14 +133,14 @@ same_so true b e = e
 same_so false true e = absurd (false≢true e)
 same_so false false e = refl
 
-pub fits_so : (a : Expression) (least : ℕ) (condition : Bool) → fits a least condition ≡ true → (least ≤ binding a) × (is_condition a ≡ condition)
+pub fits_so : (a : Expression) (least : ℕ) (condition : Bool) → fits_binding a least condition ≡ true → (least ≤ binding a) × (is_condition a ≡ condition)
 fits_so a least condition e =
     let both = and_parts (nat_le least (binding a)) (same condition (is_condition a)) e in
     (leb-true least (binding a) both.0, same_so condition (is_condition a) both.1)
 
 pub joins_so : (j : Joint) (a b : Expression) → may_join j a b ≡ true → Joins j a b
 joins_so j a b e =
-    let both = and_parts (fits a (left_least j) (joins_conditions j)) (fits b (right_least j) (joins_conditions j)) e in
+    let both = and_parts (fits_binding a (left_least j) (joins_conditions j)) (fits_binding b (right_least j) (joins_conditions j)) e in
     let l = fits_so a (left_least j) (joins_conditions j) both.0 in
     let r = fits_so b (right_least j) (joins_conditions j) both.1 in
     record { left = l.0; right = r.0; left_kind = l.1; right_kind = r.1 }
@@ -169,48 +169,48 @@ left_number j a b e h = (joins_so j a b e).left_kind ∙ kind_of_close j (omega 
 
 -- ---- a tree with a joint
 
-pub closeness_joined : (j : Joint) (p : Place) (a : Expression) (q : Place) (b : Expression) → closeness (joined j p a q b) ≡ binding_of j
+pub closeness_joined : (j : Joint) (p : Place) (a : Expression) (q : Place) (b : Expression) → closeness (joined_parts j p a q b) ≡ binding_of j
 closeness_joined joint.Or p a q b = refl
 closeness_joined j p a q b = refl
 
-pub parts_joined : (j : Joint) (p : Place) (a : Expression) (q : Place) (b : Expression) → parts (joined j p a q b) ≡ row_of (binding_of j) (closeness a) (parts a)
+pub parts_joined : (j : Joint) (p : Place) (a : Expression) (q : Place) (b : Expression) → parts_in_row (joined_parts j p a q b) ≡ parts_with_joint (binding_of j) (closeness a) (parts_in_row a)
 parts_joined joint.Or p a q b = refl
 parts_joined j p a q b = refl
 
 pub spelled_joined : (j : Joint) (p : Place) (a : Expression) (q : Place) (b : Expression) (x : Rest)
-    → after_expression (joined j p a q b) x ≡ only (may_join j a b) (after_expression b (after (joint_piece j) (after_expression a x)))
+    → after_expression (joined_parts j p a q b) x ≡ only (may_join j a b) (after_expression b (after_piece (joint_piece j) (after_expression a x)))
 spelled_joined joint.Or p a q b x = refl
 spelled_joined j p a q b x = refl
 
-pub nesting_joined : (j : Joint) (p : Place) (a : Expression) (q : Place) (b : Expression) → nesting (joined j p a q b) ≡ max (nesting a) (nesting b)
+pub nesting_joined : (j : Joint) (p : Place) (a : Expression) (q : Place) (b : Expression) → nesting (joined_parts j p a q b) ≡ max (nesting a) (nesting b)
 nesting_joined joint.Or p a q b = refl
 nesting_joined j p a q b = refl
 
-pub narrow_joined : (j : Joint) (p : Place) (a : Expression) (q : Place) (b : Expression) → is_narrow (joined j p a q b) ≡ (nat_le (parts (joined j p a q b)) 256 && is_narrow a && is_narrow b)
+pub narrow_joined : (j : Joint) (p : Place) (a : Expression) (q : Place) (b : Expression) → is_narrow (joined_parts j p a q b) ≡ (nat_le (parts_in_row (joined_parts j p a q b)) 256 && is_narrow a && is_narrow b)
 narrow_joined joint.Or p a q b = refl
 narrow_joined j p a q b = refl
 
-pub rankless_joined : (j : Joint) (p : Place) (a : Expression) (q : Place) (b : Expression) → has_no_rank (joined j p a q b) ≡ (has_no_rank a && has_no_rank b)
+pub rankless_joined : (j : Joint) (p : Place) (a : Expression) (q : Place) (b : Expression) → has_no_rank (joined_parts j p a q b) ≡ (has_no_rank a && has_no_rank b)
 rankless_joined joint.Or p a q b = refl
 rankless_joined j p a q b = refl
 
 pub record WithinBoth (depth : ℕ) (in_parameter : Bool) (j : Joint) (p : Place) (a : Expression) (q : Place) (b : Expression) : Type 0 where
-  pub left : IsWithin depth in_parameter a
-  pub right : IsWithin depth in_parameter b
-  pub narrow : parts (joined j p a q b) ≤ 256
+  pub left : IsTreeWithin depth in_parameter a
+  pub right : IsTreeWithin depth in_parameter b
+  pub narrow : parts_in_row (joined_parts j p a q b) ≤ 256
 
 within_joined : (depth : ℕ) (in_parameter : Bool) (j : Joint) (p : Place) (a : Expression) (q : Place) (b : Expression)
-    → IsWithin depth in_parameter (joined j p a q b) → WithinBoth depth in_parameter j p a q b
+    → IsTreeWithin depth in_parameter (joined_parts j p a q b) → WithinBoth depth in_parameter j p a q b
 within_joined depth in_parameter j p a q b w =
     let deep = nesting_joined j p a q b in
     let n = sym (narrow_joined j p a q b) ∙ w.narrow in
-    let short = and_parts (nat_le (parts (joined j p a q b)) 256 && is_narrow a) (is_narrow b) n in
-    let first = and_parts (nat_le (parts (joined j p a q b)) 256) (is_narrow a) short.0 in
+    let short = and_parts (nat_le (parts_in_row (joined_parts j p a q b)) 256 && is_narrow a) (is_narrow b) n in
+    let first = and_parts (nat_le (parts_in_row (joined_parts j p a q b)) 256) (is_narrow a) short.0 in
     let rank = λ (f : in_parameter ≡ true). and_parts (has_no_rank a) (has_no_rank b) (sym (rankless_joined j p a q b) ∙ w.rankless f) in
     record {
       left = record { nested = omega (arith, w.nested); narrow = first.1; rankless = λ f. (rank f).0 };
       right = record { nested = omega (arith, w.nested); narrow = short.1; rankless = λ f. (rank f).1 };
-      narrow = leb-true (parts (joined j p a q b)) 256 first.0;
+      narrow = leb-true (parts_in_row (joined_parts j p a q b)) 256 first.0;
     }
 
 -- ---- from the first part on
@@ -220,22 +220,22 @@ pub record First (depth : ℕ) (in_parameter : Bool) (e : Expression) (rest here
   pub behind : List Token
   pub operand : is_operand part ≡ true
   pub spelled : after_expression part (Some here) ≡ Some behind
-  pub within : IsWithin depth in_parameter part
+  pub within : IsTreeWithin depth in_parameter part
   pub grows : Becomes depth in_parameter e rest part behind
 
 -- the left part, with what goes on from it
 pub record Left (depth : ℕ) (in_parameter : Bool) (e : Expression) (rest : List Token) (a : Expression) (here : List Token) : Type 0 where
   pub behind : List Token
   pub spelled : after_expression a (Some here) ≡ Some behind
-  pub within : IsWithin depth in_parameter a
+  pub within : IsTreeWithin depth in_parameter a
   pub grows : Becomes depth in_parameter e rest a behind
 
 left_first : (depth : ℕ) (in_parameter : Bool) (e : Expression) (rest : List Token) (j : Joint) (p : Place) (a : Expression) (q : Place) (b : Expression) (here behind : List Token)
-    → after_expression (joined j p a q b) (Some here) ≡ Some behind → IsWithin depth in_parameter (joined j p a q b)
-    → Becomes depth in_parameter e rest (joined j p a q b) behind → Left depth in_parameter e rest a here
+    → after_expression (joined_parts j p a q b) (Some here) ≡ Some behind → IsTreeWithin depth in_parameter (joined_parts j p a q b)
+    → Becomes depth in_parameter e rest (joined_parts j p a q b) behind → Left depth in_parameter e rest a here
 left_first depth in_parameter e rest j p a q b here behind is w g =
-    let fit = only_so (may_join j a b) (after_expression b (after (joint_piece j) (after_expression a (Some here)))) behind (sym (spelled_joined j p a q b (Some here)) ∙ is) in
-    let before = some_before b (after (joint_piece j) (after_expression a (Some here))) behind fit.1 in
+    let fit = only_so (may_join j a b) (after_expression b (after_piece (joint_piece j) (after_expression a (Some here)))) behind (sym (spelled_joined j p a q b (Some here)) ∙ is) in
+    let before = some_before b (after_piece (joint_piece j) (after_expression a (Some here))) behind fit.1 in
     let mid = some_before_piece (joint_piece j) (after_expression a (Some here)) before.0 before.1 in
     let both = within_joined depth in_parameter j p a q b w in
     record {
@@ -249,7 +249,7 @@ left_first depth in_parameter e rest j p a q b here behind is w g =
         right = b;
         next = before.0;
         behind = behind;
-        begins = ap (after (joint_piece j)) (sym mid.1) ∙ before.1;
+        begins = ap (after_piece (joint_piece j)) (sym mid.1) ∙ before.1;
         spelled = ap (after_expression b) (sym before.1) ∙ fit.1;
         joins = fit.0;
         within = both.right;
@@ -258,7 +258,7 @@ left_first depth in_parameter e rest j p a q b here behind is w g =
     }
 
 pub first : (depth : ℕ) (in_parameter : Bool) (e : Expression) (rest : List Token) (a : Expression) (here behind : List Token)
-    → after_expression a (Some here) ≡ Some behind → IsWithin depth in_parameter a → Becomes depth in_parameter e rest a behind → First depth in_parameter e rest here
+    → after_expression a (Some here) ≡ Some behind → IsTreeWithin depth in_parameter a → Becomes depth in_parameter e rest a behind → First depth in_parameter e rest here
 first depth in_parameter e rest (form.Binary' o p a q b) here behind is w g =
     let l = left_first depth in_parameter e rest (joint.Between o) p a q b here behind is w g in
     first depth in_parameter e rest a here l.behind l.spelled l.within l.grows
@@ -293,18 +293,18 @@ joint_back (joint.Between operator.Plus) = refl
 joint_back (joint.Between o) = refl
 
 -- what stands first joins what the piece joins
-pub joint_of_first : (p : Piece) (here next : List Token) (k : ℕ) → after p (Some here) ≡ Some next → stops k here ≡ is_below (joint_of p) k
+pub joint_of_first : (p : Piece) (here next : List Token) (k : ℕ) → after_piece p (Some here) ≡ Some next → stops k here ≡ is_below (joint_of p) k
 joint_of_first p here next k is =
     let t = taken p here next is in
     ap (stops k) t.here_is ∙ ap (λ (x : Piece). is_below (joint_of x) k) t.piece_so
 
-stops_at : (j : Joint) (here next : List Token) (k : ℕ) → after (joint_piece j) (Some here) ≡ Some next → binding_of j < k → stops k here ≡ true
+stops_at : (j : Joint) (here next : List Token) (k : ℕ) → after_piece (joint_piece j) (Some here) ≡ Some next → binding_of j < k → stops k here ≡ true
 stops_at j here next k is h =
     let t : is_below (Some j) k ≡ true = grind (arith, nat_tests) in
     joint_of_first (joint_piece j) here next k is ∙ (ap (λ (o : Option Joint). is_below o k) (joint_back j) ∙ t)
 
 -- where the piece joins nothing, nothing is joined
-pub stops_before : (p : Piece) (here next : List Token) (k : ℕ) → after p (Some here) ≡ Some next → joint_of p ≡ None → stops k here ≡ true
+pub stops_before : (p : Piece) (here next : List Token) (k : ℕ) → after_piece p (Some here) ≡ Some next → joint_of p ≡ None → stops k here ≡ true
 stops_before p here next k is none = joint_of_first p here next k is ∙ ap (λ (o : Option Joint). is_below o k) none
 
 pub grown_close : (depth : ℕ) (in_parameter : Bool) (e : Expression) (rest : List Token) (a : Expression) (here : List Token) → Becomes depth in_parameter e rest a here → closeness e ≤ closeness a

@@ -14,9 +14,9 @@ use Rattle.spmd_text.specs.declared.piece.Piece.TheVariants as piece
 use Rattle.spmd_text.specs.declared.piece.Token.{Token}
 use Rattle.spmd_text.specs.parts.Joints.{is_below, joint_of, stops}
 use Rattle.spmd_text.specs.Words.{code}
-use Rattle.spmd_text.specs.parts.Reading.{behind, next_of}
-use Rattle.spmd_text.specs.Spelling.{Rest, after, after_gap, after_policy, begins, is_any, only, policy_word, same_number}
-use Rattle.spmd_text.specs.parts.Parts.{Part, Reads, piece_part, then_part, value_part}
+use Rattle.spmd_text.specs.parts.Reading.{behind_next, next_of}
+use Rattle.spmd_text.specs.Spelling.{Rest, after_piece, after_gap, after_policy, piece_begins, is_any, only, word_of_policy, same_number}
+use Rattle.spmd_text.specs.parts.Parts.{SyntaxPart, HasRead, piece_part, then_part, value_part}
 use Rattle.spmd_text.specs.parts.Statements.{gap_part, heading_line_part, heading_part, policy_line_part, policy_part, span_part, step_part}
 use Rattle.spmd_text.proofs.CallForms.{at_line_end}
 use Rattle.spmd_text.proofs.Following.{before_piece, stops_tests, value_ends}
@@ -26,17 +26,17 @@ use Rattle.spmd_text.proofs.Parts.{IsAs, ended, keeps_same}
 
 -- where nothing is wrong, a word that isn't read next doesn't come next
 pub not_next : (w : Word) (fault : Option ParseReason) (here : List Token) → nat_eq (code (next_of fault here)) (code (piece.Word w)) ≡ false
-    → fault ≡ None → begins (piece.Word w) (Some here) ≡ false
+    → fault ≡ None → piece_begins (piece.Word w) (Some here) ≡ false
 not_next w (Some why) here e sound = absurd (let never : Some why ≡ None = sound in cc)
 not_next w None [] e sound = refl
 not_next w None (t ∷ ts) e sound = e
 
 -- what isn't next isn't taken
-pub not_taken : (p q : Piece) (here rest : List Token) → begins p (Some here) ≡ false → after q (after p (Some here)) ≡ Some rest → ⊥
+pub not_taken : (p q : Piece) (here rest : List Token) → piece_begins p (Some here) ≡ false → after_piece q (after_piece p (Some here)) ≡ Some rest → ⊥
 not_taken p q [] rest is e = let never : None ≡ Some rest = e in cc
-not_taken p q (t ∷ ts) rest is e = let never : None ≡ Some rest = sym (ap (λ (b : Bool). after q (only b (Some ts))) is) ∙ e in cc
+not_taken p q (t ∷ ts) rest is e = let never : None ≡ Some rest = sym (ap (λ (b : Bool). after_piece q (only b (Some ts))) is) ∙ e in cc
 
-pub none_taken : (p : Piece) (here : List Token) → begins p (Some here) ≡ false → after p (Some here) ≡ None
+pub none_taken : (p : Piece) (here : List Token) → piece_begins p (Some here) ≡ false → after_piece p (Some here) ≡ None
 none_taken p [] is = refl
 none_taken p (t ∷ ts) is = ap (λ (b : Bool). only b (Some ts)) is
 
@@ -49,9 +49,9 @@ not_chosen true x y e = absurd (let never : true ≡ false = e in cc)
 not_chosen false x y e = refl
 
 -- a part that is left out is so everywhere
-pub left_out : {X : Type 0} {part : Part X} {old new : Parser} {a : X} → ((x : X) → part.Same a x) → new ≡ old
+pub left_out : {X : Type 0} {part : SyntaxPart X} {old new : Parser} {a : X} → ((x : X) → part.Same a x) → new ≡ old
     → (old.fault ≡ None → (x : X) (rest : List Token) → part.behind x (Some old.rest.now) ≡ Some rest → old.rest.now ≡ rest)
-    → (old.fault ≡ None → part.behind a (Some old.rest.now) ≡ Some old.rest.now) → part.May a → Reads part old new a
+    → (old.fault ≡ None → part.behind a (Some old.rest.now) ≡ Some old.rest.now) → part.May a → HasRead part old new a
 left_out {X} {part} {old} {new} {a} alike same none stands may = record {
   goes = keeps_same same;
   finds = λ x rest sound e m ends.
@@ -60,12 +60,12 @@ left_out {X} {part} {old} {new} {a} alike same none stands may = record {
   may = λ sound. may;
 }
 
-pub no_gap : {old new : Parser} → new ≡ old → nat_eq (code (next_of old.fault old.rest.now)) (code (piece.Word word.Step)) ≡ false → Reads gap_part old new 1
+pub no_gap : {old new : Parser} → new ≡ old → nat_eq (code (next_of old.fault old.rest.now)) (code (piece.Word word.Step)) ≡ false → HasRead gap_part old new 1
 no_gap {old} {new} same e = left_out (λ x. tt) same none stands (record { some = omega arith; most = omega arith })
   where
     out : old.fault ≡ None → (n : ℕ) → after_gap (pos n) (Some old.rest.now) ≡ only (same_number (pos n) (pos 1)) (Some old.rest.now)
     out sound n =
-        not_chosen (begins (piece.Word word.Step) (Some old.rest.now)) (after (piece.Number (pos n)) (after (piece.Word word.Step) (Some old.rest.now)))
+        not_chosen (piece_begins (piece.Word word.Step) (Some old.rest.now)) (after_piece (piece.Number (pos n)) (after_piece (piece.Word word.Step) (Some old.rest.now)))
         (only (same_number (pos n) (pos 1)) (Some old.rest.now)) (not_next word.Step old.fault old.rest.now e sound)
 
     none : old.fault ≡ None → (n : ℕ) (rest : List Token) → after_gap (pos n) (Some old.rest.now) ≡ Some rest → old.rest.now ≡ rest
@@ -75,30 +75,30 @@ no_gap {old} {new} same e = left_out (λ x. tt) same none stands (record { some 
     stands : old.fault ≡ None → after_gap (pos 1) (Some old.rest.now) ≡ Some old.rest.now
     stands sound = out sound 1
 
-pub gap_as : (old : Parser) (step : ℕ) → (old.fault ≡ None → begins (piece.Word word.Step) (Some old.rest.now) ≡ true)
+pub gap_as : (old : Parser) (step : ℕ) → (old.fault ≡ None → piece_begins (piece.Word word.Step) (Some old.rest.now) ≡ true)
     → IsAs (then_part (piece_part (piece.Word word.Step)) step_part) gap_part old (tt {0}, step) step
 gap_as old step there = record {
   back = λ w rest sound may e ends. ((tt, w), (tt, may), sym (written (there sound) w) ∙ e, refl, λ same. tt);
-  stands = λ rest e may. by_begins (begins (piece.Word word.Step) (Some old.rest.now)) refl rest e;
+  stands = λ rest e may. by_begins (piece_begins (piece.Word word.Step) (Some old.rest.now)) refl rest e;
   may = λ m. m.1;
 }
   where
-    written : begins (piece.Word word.Step) (Some old.rest.now) ≡ true → (n : ℕ) → after_gap (pos n) (Some old.rest.now) ≡ after (piece.Number (pos n)) (after (piece.Word word.Step) (Some old.rest.now))
+    written : piece_begins (piece.Word word.Step) (Some old.rest.now) ≡ true → (n : ℕ) → after_gap (pos n) (Some old.rest.now) ≡ after_piece (piece.Number (pos n)) (after_piece (piece.Word word.Step) (Some old.rest.now))
     written is n =
-        chosen (begins (piece.Word word.Step) (Some old.rest.now)) (after (piece.Number (pos n)) (after (piece.Word word.Step) (Some old.rest.now)))
+        chosen (piece_begins (piece.Word word.Step) (Some old.rest.now)) (after_piece (piece.Number (pos n)) (after_piece (piece.Word word.Step) (Some old.rest.now)))
         (only (same_number (pos n) (pos 1)) (Some old.rest.now)) is
 
-    by_begins : (b : Bool) → begins (piece.Word word.Step) (Some old.rest.now) ≡ b → (rest : List Token)
-        → after (piece.Number (pos step)) (after (piece.Word word.Step) (Some old.rest.now)) ≡ Some rest → after_gap (pos step) (Some old.rest.now) ≡ Some rest
+    by_begins : (b : Bool) → piece_begins (piece.Word word.Step) (Some old.rest.now) ≡ b → (rest : List Token)
+        → after_piece (piece.Number (pos step)) (after_piece (piece.Word word.Step) (Some old.rest.now)) ≡ Some rest → after_gap (pos step) (Some old.rest.now) ≡ Some rest
     by_begins true is rest e = written is step ∙ e
     by_begins false is rest e = absurd (not_taken (piece.Word word.Step) (piece.Number (pos step)) old.rest.now rest is e)
 
-pub no_policy : {old new : Parser} → new ≡ old → nat_eq (code (next_of old.fault old.rest.now)) (code (piece.Word word.Policy)) ≡ false → Reads policy_line_part old new policy.Any
+pub no_policy : {old new : Parser} → new ≡ old → nat_eq (code (next_of old.fault old.rest.now)) (code (piece.Word word.Policy)) ≡ false → HasRead policy_line_part old new policy.Any
 no_policy {old} {new} same e = left_out (λ x. tt) same none stands tt
   where
     out : old.fault ≡ None → (p : Policy) → after_policy p (Some old.rest.now) ≡ only (is_any p) (Some old.rest.now)
     out sound p =
-        not_chosen (begins (piece.Word word.Policy) (Some old.rest.now)) (after piece.LineEnd (after (piece.Word (policy_word p)) (after (piece.Word word.Policy) (Some old.rest.now))))
+        not_chosen (piece_begins (piece.Word word.Policy) (Some old.rest.now)) (after_piece piece.LineEnd (after_piece (piece.Word (word_of_policy p)) (after_piece (piece.Word word.Policy) (Some old.rest.now))))
         (only (is_any p) (Some old.rest.now)) (not_next word.Policy old.fault old.rest.now e sound)
 
     none : old.fault ≡ None → (p : Policy) (rest : List Token) → after_policy p (Some old.rest.now) ≡ Some rest → old.rest.now ≡ rest
@@ -107,25 +107,25 @@ no_policy {old} {new} same e = left_out (λ x. tt) same none stands tt
     stands : old.fault ≡ None → after_policy policy.Any (Some old.rest.now) ≡ Some old.rest.now
     stands sound = out sound policy.Any
 
-pub policy_as : (old : Parser) (p : Policy) → (old.fault ≡ None → begins (piece.Word word.Policy) (Some old.rest.now) ≡ true)
+pub policy_as : (old : Parser) (p : Policy) → (old.fault ≡ None → piece_begins (piece.Word word.Policy) (Some old.rest.now) ≡ true)
     → IsAs (then_part (then_part (piece_part (piece.Word word.Policy)) policy_part) (piece_part piece.LineEnd)) policy_line_part old ((tt {0}, p), tt {0}) p
 policy_as old p there = record {
   back = λ w rest sound may e ends. (((tt, w), tt), ((tt, tt), tt), sym (written (there sound) w) ∙ e, refl, λ same. tt);
-  stands = λ rest e may. by_begins (begins (piece.Word word.Policy) (Some old.rest.now)) refl rest e;
+  stands = λ rest e may. by_begins (piece_begins (piece.Word word.Policy) (Some old.rest.now)) refl rest e;
   may = λ m. tt;
 }
   where
-    written : begins (piece.Word word.Policy) (Some old.rest.now) ≡ true → (q : Policy)
-        → after_policy q (Some old.rest.now) ≡ after piece.LineEnd (after (piece.Word (policy_word q)) (after (piece.Word word.Policy) (Some old.rest.now)))
+    written : piece_begins (piece.Word word.Policy) (Some old.rest.now) ≡ true → (q : Policy)
+        → after_policy q (Some old.rest.now) ≡ after_piece piece.LineEnd (after_piece (piece.Word (word_of_policy q)) (after_piece (piece.Word word.Policy) (Some old.rest.now)))
     written is q =
-        chosen (begins (piece.Word word.Policy) (Some old.rest.now)) (after piece.LineEnd (after (piece.Word (policy_word q)) (after (piece.Word word.Policy) (Some old.rest.now))))
+        chosen (piece_begins (piece.Word word.Policy) (Some old.rest.now)) (after_piece piece.LineEnd (after_piece (piece.Word (word_of_policy q)) (after_piece (piece.Word word.Policy) (Some old.rest.now))))
         (only (is_any q) (Some old.rest.now)) is
 
-    by_begins : (b : Bool) → begins (piece.Word word.Policy) (Some old.rest.now) ≡ b → (rest : List Token)
-        → after piece.LineEnd (after (piece.Word (policy_word p)) (after (piece.Word word.Policy) (Some old.rest.now))) ≡ Some rest → after_policy p (Some old.rest.now) ≡ Some rest
+    by_begins : (b : Bool) → piece_begins (piece.Word word.Policy) (Some old.rest.now) ≡ b → (rest : List Token)
+        → after_piece piece.LineEnd (after_piece (piece.Word (word_of_policy p)) (after_piece (piece.Word word.Policy) (Some old.rest.now))) ≡ Some rest → after_policy p (Some old.rest.now) ≡ Some rest
     by_begins true is rest e = written is p ∙ e
     by_begins false is rest e =
-        absurd (let never : None ≡ Some rest = sym (ap (λ (z : Rest). after piece.LineEnd (after (piece.Word (policy_word p)) z)) (none_taken (piece.Word word.Policy) old.rest.now is)) ∙ e in cc)
+        absurd (let never : None ≡ Some rest = sym (ap (λ (z : Rest). after_piece piece.LineEnd (after_piece (piece.Word (word_of_policy p)) z)) (none_taken (piece.Word word.Policy) old.rest.now is)) ∙ e in cc)
 
 pub gap_strict : (n : ℕ) → after_gap (pos n) None ≡ None
 gap_strict n = only_none (same_number (pos n) (pos 1))
@@ -154,16 +154,16 @@ heading_as old p = record {
 }
 
 -- a step comes next, or the end of the line
-pub gap_stops : (n : ℕ) (here rest : List Token) → after_gap (pos n) (Some here) ≡ Some rest → begins piece.LineEnd (Some rest) ≡ true → stops 4 here ≡ true
-gap_stops n here rest e ends = by_begins (begins (piece.Word word.Step) (Some here)) refl
+pub gap_stops : (n : ℕ) (here rest : List Token) → after_gap (pos n) (Some here) ≡ Some rest → piece_begins piece.LineEnd (Some rest) ≡ true → stops 4 here ≡ true
+gap_stops n here rest e ends = by_begins (piece_begins (piece.Word word.Step) (Some here)) refl
   where
-    by_begins : (b : Bool) → begins (piece.Word word.Step) (Some here) ≡ b → stops 4 here ≡ true
+    by_begins : (b : Bool) → piece_begins (piece.Word word.Step) (Some here) ≡ b → stops 4 here ≡ true
     by_begins true is =
-        let f = sym (chosen (begins (piece.Word word.Step) (Some here)) (after (piece.Number (pos n)) (after (piece.Word word.Step) (Some here))) (only (same_number (pos n) (pos 1)) (Some here)) is) ∙ e in
-        let b = left_before (after (piece.Number (pos n))) refl (after (piece.Word word.Step) (Some here)) rest f in
+        let f = sym (chosen (piece_begins (piece.Word word.Step) (Some here)) (after_piece (piece.Number (pos n)) (after_piece (piece.Word word.Step) (Some here))) (only (same_number (pos n) (pos 1)) (Some here)) is) ∙ e in
+        let b = left_before (after_piece (piece.Number (pos n))) refl (after_piece (piece.Word word.Step) (Some here)) rest f in
         before_piece (stops 4) (λ p. is_below (joint_of p) 4) (stops_tests 4) (piece.Word word.Step) refl here b.0 b.1
     by_begins false is =
-        let f = sym (not_chosen (begins (piece.Word word.Step) (Some here)) (after (piece.Number (pos n)) (after (piece.Word word.Step) (Some here))) (only (same_number (pos n) (pos 1)) (Some here)) is) ∙ e in
+        let f = sym (not_chosen (piece_begins (piece.Word word.Step) (Some here)) (after_piece (piece.Number (pos n)) (after_piece (piece.Word word.Step) (Some here))) (only (same_number (pos n) (pos 1)) (Some here)) is) ∙ e in
         let same = same_Some here rest (only_left (same_number (pos n) (pos 1)) (Some here) rest f).1 in
         ap (stops 4) same ∙ value_ends rest ends
 
@@ -182,7 +182,7 @@ no_end w e = let same : piece.TextEnd ≡ piece.Word w = piece_is (piece.Word w)
 
 -- a word that is read next is taken by a step
 pub next_word_shorter : (w : Word) (fault : Option ParseReason) (here : List Token) → nat_eq (code (next_of fault here)) (code (piece.Word w)) ≡ true
-    → length (behind here) < length here
+    → length (behind_next here) < length here
 next_word_shorter w None [] e = absurd (no_end w e)
 next_word_shorter w (Some why) [] e = absurd (no_end w e)
 next_word_shorter w fault (t ∷ ts) e = omega arith

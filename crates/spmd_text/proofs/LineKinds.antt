@@ -9,10 +9,10 @@ use Rattle.spmd_text.specs.declared.piece.Word.TheVariants as word
 use Rattle.spmd_text.specs.declared.piece.Piece.{Piece}
 use Rattle.spmd_text.specs.declared.piece.Piece.TheVariants as piece
 use Rattle.spmd_text.specs.declared.piece.Token.{Token}
-use Rattle.spmd_text.specs.parts.Parts.{form_of, form_of_call}
-use Rattle.spmd_text.specs.Spelling.{Rest, after, after_condition, after_gap, after_optional, after_span, after_start, begins, call_word, policy_word}
+use Rattle.spmd_text.specs.parts.Parts.{syntax_form, form_of_call}
+use Rattle.spmd_text.specs.Spelling.{Rest, after_piece, after_condition, after_gap, after_optional, after_span, after_start, piece_begins, call_word, word_of_policy}
 use Rattle.spmd_text.specs.parts.Statements.{first_word, is_one, is_simple}
-use Rattle.spmd_text.specs.parts.Lines.{IsElifLine, IsElseLine, IsEndLine, IsHeading, IsIfLine, IsLoopLine, IsParameterLine, IsPolicyLine, IsSimpleLine, IsTextEnd, Level, Moves, Runs, Steps, behind_one, branch, done, headed, in_block, in_loop, last, listed, more, with_block, with_parameter}
+use Rattle.spmd_text.specs.parts.Lines.{IsElifLine, IsElseLine, IsEndLine, IsHeading, IsIfLine, IsLoopLine, IsParameterLine, IsSpmdPolicyLine, IsSimpleLine, IsTextEnd, Level, Moves, Runs, Steps, behind_one, branch, done, headed, in_block, in_loop, last, listed, more, with_block, with_parameter}
 use Rattle.spmd_text.specs.Lines.{closes, is_line}
 use Rattle.spmd_text.specs.parts.Lines as lines
 use Rattle.spmd_text.proofs.BlockForms.{not_so}
@@ -57,7 +57,7 @@ kind_at (t ∷ ts) = kind_of t.piece
 
 abbrev pub ByKind : Kind → List Level → List Token → List Level → Type 0
 ByKind heading = IsHeading
-ByKind policy = IsPolicyLine
+ByKind policy = IsSpmdPolicyLine
 ByKind parameter = IsParameterLine
 ByKind simple = IsSimpleLine
 ByKind repeat = IsLoopLine
@@ -69,11 +69,11 @@ ByKind text_end = IsTextEnd
 
 -- ---- the first piece of each kind
 
-pub kind_begins : (p : Piece) (line : List Token) → begins p (Some line) ≡ true → kind_at line ≡ kind_of p
+pub kind_begins : (p : Piece) (line : List Token) → piece_begins p (Some line) ≡ true → kind_at line ≡ kind_of p
 kind_begins p [] e = absurd (let never : false ≡ true = e in cc)
 kind_begins p (t ∷ ts) e = ap kind_of (piece_is p t.piece e)
 
-call_simple : (v : Word) (f : Form) → form_of v ≡ Some f → kind_of (piece.Word v) ≡ simple
+call_simple : (v : Word) (f : Form) → syntax_form v ≡ Some f → kind_of (piece.Word v) ≡ simple
 call_simple word.Spmd f e = absurd (let never : None ≡ Some f = e in cc)
 call_simple word.Policy f e = absurd (let never : None ≡ Some f = e in cc)
 call_simple word.Param f e = absurd (let never : None ≡ Some f = e in cc)
@@ -98,11 +98,11 @@ simple_kind (statement.WaitAll line requests) one is = refl
 simple_kind (statement.Unreached line) one is = refl
 
 -- one word, and what takes the rest of the line
-pub word_first : (F : Rest → Rest) → F None ≡ None → (w : Word) (line rest : List Token) → F (after (piece.Word w) (Some line)) ≡ Some rest → begins (piece.Word w) (Some line) ≡ true
+pub word_first : (F : Rest → Rest) → F None ≡ None → (w : Word) (line rest : List Token) → F (after_piece (piece.Word w) (Some line)) ≡ Some rest → piece_begins (piece.Word w) (Some line) ≡ true
 word_first F strict w line rest e =
-    let b = left_before F strict (after (piece.Word w) (Some line)) rest e in taken_begins w line b.0 b.1
+    let b = left_before F strict (after_piece (piece.Word w) (Some line)) rest e in taken_begins w line b.0 b.1
 
-pub text_end_kind : (line rest : List Token) → after piece.TextEnd (Some line) ≡ Some rest → kind_at line ≡ text_end
+pub text_end_kind : (line rest : List Token) → after_piece piece.TextEnd (Some line) ≡ Some rest → kind_at line ≡ text_end
 text_end_kind line rest e = let t = taken piece.TextEnd line rest e in ap kind_at t.here_is ∙ ap kind_of t.piece_so
 
 of_kind : (k : Kind) (levels : List Level) (line : List Token) (next : List Level) → kind_at line ≡ k → ByKind k levels line next → ByKind (kind_at line) levels line next
@@ -110,26 +110,26 @@ of_kind k levels line next e h = subst (λ (z : Kind). ByKind z levels line next
 
 -- each step is of the kind that its line tells
 pub by_kind : (levels : List Level) (line : List Token) (next : List Level) → Steps levels line next → ByKind (kind_at line) levels line next
-by_kind levels line next (lines.heading h) = of_kind heading levels line next (kind_begins (piece.Word word.Spmd) line (word_first (after piece.LineEnd) refl word.Spmd line [] h.spelled)) h
+by_kind levels line next (lines.heading h) = of_kind heading levels line next (kind_begins (piece.Word word.Spmd) line (word_first (after_piece piece.LineEnd) refl word.Spmd line [] h.spelled)) h
 by_kind levels line next (lines.policy h) =
-    of_kind policy levels line next (kind_begins (piece.Word word.Policy) line (word_first (λ z. after piece.LineEnd (after (piece.Word (policy_word h.policy)) z)) refl word.Policy line [] h.spelled)) h
+    of_kind policy levels line next (kind_begins (piece.Word word.Policy) line (word_first (λ z. after_piece piece.LineEnd (after_piece (piece.Word (word_of_policy h.policy)) z)) refl word.Policy line [] h.spelled)) h
 by_kind levels line next (lines.parameter h) =
     of_kind parameter levels line next
-    (kind_begins (piece.Word word.Param) line (start_begins (λ z. after piece.LineEnd (after_optional piece.Equals h.value (after (piece.Name h.name) z))) (after_of piece.LineEnd _ (optional_strict piece.Equals h.value)) h.number word.Param line [] h.spelled)) h
+    (kind_begins (piece.Word word.Param) line (start_begins (λ z. after_piece piece.LineEnd (after_optional piece.Equals h.value (after_piece (piece.Name h.name) z))) (after_of piece.LineEnd _ (optional_strict piece.Equals h.value)) h.number word.Param line [] h.spelled)) h
 by_kind levels line next (lines.simple h) =
     of_kind simple levels line next (kind_begins (piece.Word (first_word h.statement)) line (one_begins h.statement h.may.one line [] h.spelled) ∙ simple_kind h.statement h.may.one h.simple) h
 by_kind levels line next (lines.repeat h) =
     of_kind repeat levels line next
-    (kind_begins (piece.Word word.For) line (start_begins (λ z. after_span h.span.first h.span.last (pos h.span.step) (after piece.Equals (after (piece.Name h.name) z)))
+    (kind_begins (piece.Word word.For) line (start_begins (λ z. after_span h.span.first h.span.last (pos h.span.step) (after_piece piece.Equals (after_piece (piece.Name h.name) z)))
     (after_of piece.LineEnd _ (none_of (after_gap (pos h.span.step)) (gap_strict h.span.step) _ (value_of h.span.last _ (after_of (piece.Word word.To) _ (value_strict h.span.first))))) h.number word.For line [] h.spelled)) h
 by_kind levels line next (lines.when h) =
     of_kind when levels line next
-    (kind_begins (piece.Word word.If) line (start_begins (λ z. after piece.LineEnd (after_condition h.condition z)) (after_of piece.LineEnd _ (condition_strict h.condition)) h.number word.If line [] h.spelled)) h
+    (kind_begins (piece.Word word.If) line (start_begins (λ z. after_piece piece.LineEnd (after_condition h.condition z)) (after_of piece.LineEnd _ (condition_strict h.condition)) h.number word.If line [] h.spelled)) h
 by_kind levels line next (lines.chained h) =
     of_kind chained levels line next
-    (kind_begins (piece.Word word.Elif) line (start_begins (λ z. after piece.LineEnd (after_condition h.condition z)) (after_of piece.LineEnd _ (condition_strict h.condition)) h.number word.Elif line [] h.spelled)) h
-by_kind levels line next (lines.otherwise h) = of_kind otherwise levels line next (kind_begins (piece.Word word.Else) line (word_first (after piece.LineEnd) refl word.Else line [] h.spelled)) h
-by_kind levels line next (lines.end h) = of_kind end levels line next (kind_begins (piece.Word word.End) line (word_first (after piece.LineEnd) refl word.End line [] h.spelled)) h
+    (kind_begins (piece.Word word.Elif) line (start_begins (λ z. after_piece piece.LineEnd (after_condition h.condition z)) (after_of piece.LineEnd _ (condition_strict h.condition)) h.number word.Elif line [] h.spelled)) h
+by_kind levels line next (lines.otherwise h) = of_kind otherwise levels line next (kind_begins (piece.Word word.Else) line (word_first (after_piece piece.LineEnd) refl word.Else line [] h.spelled)) h
+by_kind levels line next (lines.end h) = of_kind end levels line next (kind_begins (piece.Word word.End) line (word_first (after_piece piece.LineEnd) refl word.End line [] h.spelled)) h
 by_kind levels line next (lines.text_end h) = of_kind text_end levels line next (text_end_kind line [] h.spelled) h
 
 -- ---- a step takes one line
@@ -207,7 +207,7 @@ next_by otherwise (l ∷ outer) line = with_block last l ∷ outer
 next_by end (l ∷ outer) line = outer
 next_by text_end (l ∷ outer) line = []
 
-second_name : (number k : ℕ) (w : Word) (line between rest : List Token) → after_start number w (Some line) ≡ Some between → after (piece.Name k) (Some between) ≡ Some rest → name_at line ≡ k
+second_name : (number k : ℕ) (w : Word) (line between rest : List Token) → after_start number w (Some line) ≡ Some between → after_piece (piece.Name k) (Some between) ≡ Some rest → name_at line ≡ k
 unfolding name_at name_of
 second_name number k w [] between rest e f = absurd (none_some between e)
 second_name number k w (t ∷ ts) between rest e f =
@@ -215,22 +215,22 @@ second_name number k w (t ∷ ts) between rest e f =
     let n = taken (piece.Name k) between rest f in
     ap (λ (xs : List Token). name_at (t ∷ xs)) (s.1 ∙ n.here_is) ∙ ap name_of n.piece_so
 
-name_second : (F : Rest → Rest) → F None ≡ None → (number k : ℕ) (w : Word) (line rest : List Token) → F (after (piece.Name k) (after_start number w (Some line))) ≡ Some rest → name_at line ≡ k
+name_second : (F : Rest → Rest) → F None ≡ None → (number k : ℕ) (w : Word) (line rest : List Token) → F (after_piece (piece.Name k) (after_start number w (Some line))) ≡ Some rest → name_at line ≡ k
 name_second F strict number k w line rest e =
-    let outer = left_before F strict (after (piece.Name k) (after_start number w (Some line))) rest e in
-    let inner = left_before (after (piece.Name k)) refl (after_start number w (Some line)) outer.0 outer.1 in
-    second_name number k w line inner.0 outer.0 inner.1 (ap (after (piece.Name k)) (sym inner.1) ∙ outer.1)
+    let outer = left_before F strict (after_piece (piece.Name k) (after_start number w (Some line))) rest e in
+    let inner = left_before (after_piece (piece.Name k)) refl (after_start number w (Some line)) outer.0 outer.1 in
+    second_name number k w line inner.0 outer.0 inner.1 (ap (after_piece (piece.Name k)) (sym inner.1) ∙ outer.1)
 
 next_is : (k : Kind) (levels : List Level) (line : List Token) (next : List Level) → ByKind k levels line next → next ≡ next_by k levels line
 unfolding next_by
 next_is heading levels line next h = h.is ∙ ap (λ (ls : List Level). next_by heading ls line) (sym h.here)
 next_is policy levels line next h = h.is ∙ ap (λ (ls : List Level). next_by policy ls line) (sym h.here)
 next_is parameter levels line next h =
-    let n = name_second (λ z. after piece.LineEnd (after_optional piece.Equals h.value z)) (after_of piece.LineEnd _ (optional_strict piece.Equals h.value)) h.number h.name word.Param line [] h.spelled in
+    let n = name_second (λ z. after_piece piece.LineEnd (after_optional piece.Equals h.value z)) (after_of piece.LineEnd _ (optional_strict piece.Equals h.value)) h.number h.name word.Param line [] h.spelled in
     h.is ∙ (ap (λ (k : ℕ). with_parameter k h.level ∷ h.outer) (sym n) ∙ ap (λ (ls : List Level). next_by parameter ls line) (sym h.here))
 next_is simple levels line next h = h.is ∙ ap (λ (ls : List Level). next_by simple ls line) (sym h.here)
 next_is repeat levels line next h =
-    let n = name_second (λ z. after_span h.span.first h.span.last (pos h.span.step) (after piece.Equals z))
+    let n = name_second (λ z. after_span h.span.first h.span.last (pos h.span.step) (after_piece piece.Equals z))
     (after_of piece.LineEnd _ (none_of (after_gap (pos h.span.step)) (gap_strict h.span.step) _ (value_of h.span.last _ (after_of (piece.Word word.To) _ (value_strict h.span.first)))))
     h.number h.name word.For line [] h.spelled in
     h.is ∙ (ap (λ (k : ℕ). in_loop k h.level ∷ behind_one h.level ∷ h.outer) (sym n) ∙ ap (λ (ls : List Level). next_by repeat ls line) (sym h.here))

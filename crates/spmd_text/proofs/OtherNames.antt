@@ -15,12 +15,12 @@ use Rattle.spmd_text.specs.declared.piece.Piece.{Piece}
 use Rattle.spmd_text.specs.declared.piece.Piece.TheVariants as piece
 use Rattle.spmd_text.specs.declared.piece.Word.TheVariants as word
 use Rattle.spmd_text.specs.declared.piece.Token.{Token}
-use Rattle.spmd_text.specs.FirstFaults.{AreAlike, IsAlike, letters_of}
+use Rattle.spmd_text.specs.FirstFaults.{AreAlike, IsAlike, letters_if_there}
 use Rattle.spmd_text.specs.Labels.{has_index, is_label, label_fits, name_fits}
 use Rattle.spmd_text.specs.parts.Lines.{Level, Runs, Steps}
 use Rattle.spmd_text.specs.parts.Lines as lines
 use Rattle.spmd_text.specs.Rules.{IfThere, MayCall, MayLabel, MayLabels}
-use Rattle.spmd_text.specs.Spelling.{Rest, after, after_arguments, after_index, after_label, after_labels, after_request, after_start, after_statement, call_word}
+use Rattle.spmd_text.specs.Spelling.{Rest, after_piece, after_arguments, after_index, after_label, after_labels, after_request, after_start, after_statement, call_word}
 use Rattle.spmd_text.specs.parts.Statements.{first_word, is_one, is_simple}
 use Rattle.spmd_text.specs.Statements.{Obeys, Scope}
 use Rattle.spmd_text.proofs.Framing.{Framed, framed_communicator, framed_label, framed_on, framed_pair, framed_piece, framed_request, framed_start, framed_value, framed_wild}
@@ -53,7 +53,7 @@ alike_behind names others here rest framed e h =
 
 -- ---- labels
 
-fits_alike : (a b : Option (Vec ℕ)) (indexed : Bool) → letters_of a ≡ letters_of b → name_fits a indexed ≡ name_fits b indexed
+fits_alike : (a b : Option (Vec ℕ)) (indexed : Bool) → letters_if_there a ≡ letters_if_there b → name_fits a indexed ≡ name_fits b indexed
 fits_alike None None indexed e = refl
 fits_alike None (Some b) indexed e = absurd (none_some b.items e)
 fits_alike (Some a) None indexed e = absurd (none_some a.items (sym e))
@@ -61,7 +61,7 @@ fits_alike (Some a) (Some b) indexed e = ap (λ (w : List ℕ). is_label w index
 
 label_alike : (names others : List (Vec ℕ)) (f : LabelForm) (here rest : List Token) → after_label f (Some here) ≡ Some rest → AreAlike names others here → label_fits names f ≡ label_fits others f
 label_alike names others f here rest e h =
-    let m = left_before (after_index f.index) (index_strict f.index) (after (piece.Name f.name) (Some here)) rest e in
+    let m = left_before (after_index f.index) (index_strict f.index) (after_piece (piece.Name f.name) (Some here)) rest e in
     let t = taken (piece.Name f.name) here m.0 m.1 in
     let named : AreAlike names others (t.token ∷ m.0) = subst (AreAlike names others) t.here_is h in
     fits_alike (slice_get names f.name) (slice_get others f.name) (has_index f.index) (subst (IsAlike names others) t.piece_so named.0)
@@ -74,14 +74,14 @@ may_request : (flag : Bool) (names others : List (Vec ℕ)) (r : Option LabelFor
     → IfThere (MayLabel flag names) r → IfThere (MayLabel flag others) r
 may_request flag names others None here rest e h may = tt
 may_request flag names others (Some f) here rest e h may =
-    let m = left_before (after piece.Comma) refl (after_label f (Some here)) rest e in may_label flag names others f here m.0 m.1 h may
+    let m = left_before (after_piece piece.Comma) refl (after_label f (Some here)) rest e in may_label flag names others f here m.0 m.1 h may
 
 may_labels : (flag : Bool) (names others : List (Vec ℕ)) (labels : Labels) (here rest : List Token) → after_labels labels (Some here) ≡ Some rest → AreAlike names others here
     → MayLabels flag names labels → MayLabels flag others labels
 may_labels flag names others (Last f) here rest e h may = may_label flag names others f here rest e h may
 may_labels flag names others (More' f p more) here rest e h may =
-    let second = left_before (after_labels more) (labels_strict more) (after piece.Comma (after_label f (Some here))) rest e in
-    let first = left_before (after piece.Comma) refl (after_label f (Some here)) second.0 second.1 in
+    let second = left_before (after_labels more) (labels_strict more) (after_piece piece.Comma (after_label f (Some here))) rest e in
+    let first = left_before (after_piece piece.Comma) refl (after_label f (Some here)) second.0 second.1 in
     let behind = alike_behind names others here second.0 (framed_on (framed_label f) (framed_piece piece.Comma refl)) second.1 h in
     (may_label flag names others f here first.0 first.1 h may.0, may_labels flag names others more second.0 rest (ap (after_labels more) (sym second.1) ∙ e) behind may.1)
 
@@ -128,13 +128,13 @@ simple_obeys others scope depth (statement.Otherwise' p a) line rest one simple 
 simple_obeys others scope depth (statement.Repeat' number name first final step p a) line rest one simple e h o = absurd (false≢true simple)
 simple_obeys others scope depth (statement.Call number c) line rest one simple e h o =
     let begun : Rest = after_start number (call_word c) (Some line) in
-    let second = left_before (after piece.LineEnd) refl (after_arguments c begun) rest e in
+    let second = left_before (after_piece piece.LineEnd) refl (after_arguments c begun) rest e in
     let first = left_before (after_arguments c) (arguments_strict c) begun second.0 second.1 in
     may_call scope.in_parameter scope.names others c first.0 second.0 (ap (after_arguments c) (sym first.1) ∙ second.1)
     (alike_behind scope.names others line first.0 (framed_start number (call_word c)) first.1 h) o
 simple_obeys others scope depth (statement.WaitAll number requests) line rest one simple e h o =
     let begun : Rest = after_start number word.Waitall (Some line) in
-    let second = left_before (after piece.LineEnd) refl (after_labels requests begun) rest e in
+    let second = left_before (after_piece piece.LineEnd) refl (after_labels requests begun) rest e in
     let first = left_before (after_labels requests) (labels_strict requests) begun second.0 second.1 in (
       may_labels scope.in_parameter scope.names others requests first.0 second.0 (ap (after_labels requests) (sym first.1) ∙ second.1)
           (alike_behind scope.names others line first.0 (framed_start number word.Waitall) first.1 h) o.0,

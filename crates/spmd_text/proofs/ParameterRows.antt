@@ -12,10 +12,10 @@ use Rattle.spmd_text.specs.declared.piece.Piece.TheVariants as piece
 use Rattle.spmd_text.specs.declared.piece.Token.{Token}
 use Rattle.spmd_text.specs.Words.{code}
 use Rattle.spmd_text.specs.parts.Reading.{Finds, next_of}
-use Rattle.spmd_text.specs.Spelling.{Rest, after_statement, begins, is_branch, only}
-use Rattle.spmd_text.specs.parts.Parts.{Keeps, Part, any_end, lacks}
-use Rattle.spmd_text.specs.parts.Statements.{Makes, behind_all, flat, flat_all, put_back}
-use Rattle.spmd_text.specs.parts.Programs.{Grows, MayParameter, Meets, ReadsParameter, ReadsParameters, is_parameter}
+use Rattle.spmd_text.specs.Spelling.{Rest, after_statement, piece_begins, is_branch, only}
+use Rattle.spmd_text.specs.parts.Parts.{Keeps, SyntaxPart, any_end, lacks}
+use Rattle.spmd_text.specs.parts.Statements.{MakesOrLacksMemory, behind_all, flat, flat_all, put_back}
+use Rattle.spmd_text.specs.parts.Programs.{GrowsByParameters, MayParameter, Meets, ReadsParameter, ReadsParameters, is_parameter}
 use Rattle.spmd_text.specs.Programs.{ObeyParameters, parameters_of}
 use Rattle.spmd_text.proofs.BlockWords.{start_begins, statement_strict}
 use Rattle.spmd_text.proofs.Flat.{all_strict, behind_append, flat_append}
@@ -120,16 +120,16 @@ of_row names s m = (m.0.obeys, λ z rest e. e)
 
 -- ---- one parameter from its word on
 
-parameter_begins : (s : Statement) → is_parameter s ≡ true → (here rest : List Token) → after_statement s (Some here) ≡ Some rest → begins (piece.Word word.Param) (Some here) ≡ true
+parameter_begins : (s : Statement) → is_parameter s ≡ true → (here rest : List Token) → after_statement s (Some here) ≡ Some rest → piece_begins (piece.Word word.Param) (Some here) ≡ true
 parameter_begins (statement.Parameter line name v) one here rest e = start_begins (behind_param name v) (param_none name v) line word.Param here rest e
 parameter_begins s one here rest e = absurd (let never : false ≡ true = one in cc)
 
-abbrev pub one_parameter_part : List ℕ → Part Statement
+abbrev pub one_parameter_part : List ℕ → SyntaxPart Statement
 one_parameter_part names =
     record { behind = after_statement; May = MayParameter names; Same = λ a b. parameters_of a ≡ parameters_of b; ends = any_end }
 
 pub record ReadsOne (old new : Parser) (found : Statement) : Type 0 where
-  pub goes : Grows old new (parameters_of found)
+  pub goes : GrowsByParameters old new (parameters_of found)
   pub meets : Meets (one_parameter_part old.parameters.items) old new found
 
 pub reads_one : {old mid new : Parser} {s : Statement} {line : ℕ} → Keeps old mid → (old.fault ≡ None → mid.fault ≡ None)
@@ -144,7 +144,7 @@ reads_one {old} {mid} {new} {s} {line} goes sound_so back r = record {
   };
 }
   where
-    whole : Grows old new (parameters_of s)
+    whole : GrowsByParameters old new (parameters_of s)
     whole = kept_then_grown goes r.goes
 
 -- ---- the parameters so far
@@ -161,7 +161,7 @@ pub record LeftRow (s : Parser) (row read : List Statement) (rest : List Token) 
 -- What was read so far of parameters: where some of them stood, the others of them are left, unless
 -- memory ran out; and where nothing is wrong, those that were read stood.
 pub record ParametersSoFar (old s : Parser) (list : List Statement) : Type 0 where
-  pub goes : Grows old s (names_of (flat_all list))
+  pub goes : GrowsByParameters old s (names_of (flat_all list))
   pub finds : (row : List Statement) (rest : List Token) → old.fault ≡ None → behind_all row (Some old.rest.now) ≡ Some rest → MayRow old.parameters.items row
       → lacks (piece.Word word.Param) rest ≡ true → (s.fault ≡ Some Memory) ⊎ LeftRow s row (flat_all list) rest
   pub stands : s.fault ≡ None → behind_all (flat_all list) (Some old.rest.now) ≡ Some s.rest.now
@@ -177,13 +177,13 @@ parameters_begun old = record {
 
 -- where nothing is wrong, the word that is read next comes next
 pub next_here : (fault : Option ParseReason) (here : List Token) → nat_eq (code (next_of fault here)) (code (piece.Word word.Param)) ≡ true → fault ≡ None
-    → begins (piece.Word word.Param) (Some here) ≡ true
+    → piece_begins (piece.Word word.Param) (Some here) ≡ true
 next_here (Some why) here e sound = absurd (let never : Some why ≡ None = sound in cc)
 next_here None [] e sound = absurd (let never : false ≡ true = e in cc)
 next_here None (t ∷ ts) e sound = e
 
 pub parameters_more : {old s mid new : Parser} {list longer : List Statement} (item : Statement) → ParametersSoFar old s list
-    → nat_eq (code (next_of s.fault s.rest.now)) (code (piece.Word word.Param)) ≡ true → ReadsOne s mid item → Makes mid new (longer ≡ list ++ item ∷ []) → ParametersSoFar old new longer
+    → nat_eq (code (next_of s.fault s.rest.now)) (code (piece.Word word.Param)) ≡ true → ReadsOne s mid item → MakesOrLacksMemory mid new (longer ≡ list ++ item ∷ []) → ParametersSoFar old new longer
 parameters_more {old} {s} {mid} {new} {list} {longer} item so_far is r makes = record {
   goes = renamed (grows_on so_far.goes last) (λ sound. sym (names_longer list item longer (made_sound makes sound).1));
   finds = λ row rest sound e may ends. by_left row rest ends (so_far.finds row rest sound e may ends);
@@ -191,7 +191,7 @@ parameters_more {old} {s} {mid} {new} {list} {longer} item so_far is r makes = r
   may = may;
 }
   where
-    last : Grows s new (parameters_of item)
+    last : GrowsByParameters s new (parameters_of item)
     last = grown_then_kept r.goes (made_goes makes)
 
     by_found : (row : List Statement) (rest between : List Token) (x : Statement) (xs : List Statement) → behind_all xs (Some between) ≡ Some rest
@@ -213,7 +213,7 @@ parameters_more {old} {s} {mid} {new} {list} {longer} item so_far is r makes = r
     by_row : (row : List Statement) (rest : List Token) → lacks (piece.Word word.Param) rest ≡ true → s.fault ≡ None → (others : List Statement) → behind_all others (Some s.rest.now) ≡ Some rest
         → MayRow s.parameters.items others → names_of row ≡ names_of (flat_all list) ++ names_of others → (new.fault ≡ Some Memory) ⊎ LeftRow new row (flat_all longer) rest
     by_row row rest ends sound [] e may names =
-        absurd (lacks_not (piece.Word word.Param) rest (ap (λ (z : Rest). begins (piece.Word word.Param) z) (sym e) ∙ next_here s.fault s.rest.now is sound) ends)
+        absurd (lacks_not (piece.Word word.Param) rest (ap (λ (z : Rest). piece_begins (piece.Word word.Param) z) (sym e) ∙ next_here s.fault s.rest.now is sound) ends)
     by_row row rest ends sound (x ∷ xs) e may names =
         let between = left_before (behind_all xs) (all_strict xs) (after_statement x (Some s.rest.now)) rest e in
         by_found row rest between.0 x xs (ap (behind_all xs) (sym between.1) ∙ e) may.1 names (finds_made makes (r.meets.finds x between.0 sound between.1 may.0 refl))
@@ -242,7 +242,7 @@ parameters_more {old} {s} {mid} {new} {list} {longer} item so_far is r makes = r
         (subst (λ (l : List ℕ). MayRow l (item ∷ [])) (so_far.goes.parameters s_sound) (b, tt)))
 
 pub parameters_ended : {old s new : Parser} {list : List Statement} (made : Statement) → ParametersSoFar old s list
-    → nat_eq (code (next_of s.fault s.rest.now)) (code (piece.Word word.Param)) ≡ false → Makes s new (flat made ≡ flat_all list) → ReadsParameters old new made
+    → nat_eq (code (next_of s.fault s.rest.now)) (code (piece.Word word.Param)) ≡ false → MakesOrLacksMemory s new (flat made ≡ flat_all list) → ReadsParameters old new made
 parameters_ended {old} {s} {new} {list} made so_far none makes = record {
   goes = renamed (grown_then_kept so_far.goes (made_goes makes)) names_made;
   meets = record {

@@ -8,14 +8,14 @@ use Rattle.spmd_text.specs.declared.parser.Parser.{Parser}
 use Rattle.spmd_text.specs.declared.piece.Token.{Token}
 use Rattle.spmd_text.specs.Spelling.{Rest}
 use Rattle.spmd_text.specs.parts.Reading.{Finds, Goes}
-use Rattle.spmd_text.specs.parts.Parts.{Keeps, Part, Reads, then_part}
+use Rattle.spmd_text.specs.parts.Parts.{Keeps, SyntaxPart, HasRead, then_part}
 
 -- nothing stands behind nothing
-abbrev pub IsStrict : {X : Type 0} → Part X → Type 0
+abbrev pub IsStrict : {X : Type 0} → SyntaxPart X → Type 0
 IsStrict {X} part = (x : X) → part.behind x None ≡ None
 
 -- what one part asks of what comes behind it holds where the other one stands
-abbrev pub Follows : {X Y : Type 0} → Part X → Part Y → Type 0
+abbrev pub Follows : {X Y : Type 0} → SyntaxPart X → SyntaxPart Y → Type 0
 Follows {X} {Y} one other = (y : Y) (here rest : List Token) → other.May y → other.behind y (Some here) ≡ Some rest → other.ends rest ≡ true → one.ends here ≡ true
 
 pub none_some : {A : Type 0} (x : A) → None ≡ Some x → ⊥
@@ -54,8 +54,8 @@ sound_before {old} {new} goes sound = by_fault old.fault refl
     by_fault None e = e
     by_fault (Some why) e = absurd (none_some why (sym sound ∙ goes.sticks why e))
 
-pub reads_then : {X Y : Type 0} {one : Part X} {other : Part Y} {old mid new : Parser} {a : X} {b : Y}
-    → IsStrict other → Follows one other → Reads one old mid a → Reads other mid new b → Reads (then_part one other) old new (a, b)
+pub reads_then : {X Y : Type 0} {one : SyntaxPart X} {other : SyntaxPart Y} {old mid new : Parser} {a : X} {b : Y}
+    → IsStrict other → Follows one other → HasRead one old mid a → HasRead other mid new b → HasRead (then_part one other) old new (a, b)
 reads_then {X} {Y} {one} {other} {old} {mid} {new} {a} {b} strict follows r s = record {
   goes = keeps_on r.goes s.goes;
   finds = finds;
@@ -87,7 +87,7 @@ reads_then {X} {Y} {one} {other} {old} {mid} {new} {a} {b} strict follows r s = 
 
 -- What is read as one part is read as another, where a tree of the other one that stands here is
 -- one of the first.
-pub record IsAs {X Z : Type 0} (one : Part X) (other : Part Z) (old : Parser) (a : X) (z : Z) : Type 0 where
+pub record IsAs {X Z : Type 0} (one : SyntaxPart X) (other : SyntaxPart Z) (old : Parser) (a : X) (z : Z) : Type 0 where
   pub back : (w : Z) (rest : List Token) → old.fault ≡ None → other.May w → other.behind w (Some old.rest.now) ≡ Some rest → other.ends rest ≡ true
       → (x : X) × one.May x × (one.behind x (Some old.rest.now) ≡ Some rest) × (one.ends rest ≡ true) × (one.Same a x → other.Same z w)
   pub stands : (rest : List Token) → one.behind a (Some old.rest.now) ≡ Some rest → one.May a → other.behind z (Some old.rest.now) ≡ Some rest
@@ -97,8 +97,8 @@ pub found_as : {A B : Type 0} {new : Parser} {rest : List Token} → (A → B) �
 found_as f (inl memory) = inl memory
 found_as f (inr (there, a)) = inr (there, f a)
 
-pub reads_as : {X Z : Type 0} {one : Part X} {other : Part Z} {old new : Parser} {a : X} {z : Z}
-    → IsAs one other old a z → Reads one old new a → Reads other old new z
+pub reads_as : {X Z : Type 0} {one : SyntaxPart X} {other : SyntaxPart Z} {old new : Parser} {a : X} {z : Z}
+    → IsAs one other old a z → HasRead one old new a → HasRead other old new z
 reads_as {X} {Z} {one} {other} {old} {new} {a} {z} same r = record {
   goes = r.goes;
   finds = λ w rest sound e may ends.
@@ -109,9 +109,9 @@ reads_as {X} {Z} {one} {other} {old} {new} {a} {z} same r = record {
 }
 
 -- nothing is taken, since nothing of the part can stand here
-pub none_read : {X : Type 0} {part : Part (Option X)} {old new : Parser}
+pub none_read : {X : Type 0} {part : SyntaxPart (Option X)} {old new : Parser}
     → ((z : Rest) → part.behind None z ≡ z) → part.May None → part.Same None None → new ≡ old
-    → ((x : X) (rest : List Token) → old.fault ≡ None → part.May (Some x) → part.behind (Some x) (Some old.rest.now) ≡ Some rest → ⊥) → Reads part old new None
+    → ((x : X) (rest : List Token) → old.fault ≡ None → part.May (Some x) → part.behind (Some x) (Some old.rest.now) ≡ Some rest → ⊥) → HasRead part old new None
 none_read {X} {part} {old} {new} nothing may alike same never = record {
   goes = keeps_same same;
   finds = finds;
@@ -131,21 +131,21 @@ none_read {X} {part} {old} {new} nothing may alike same never = record {
     finds (Some x) rest sound e m ends = absurd (never x rest sound m e)
 
 -- what is the same before stays so
-pub on_flag : {X : Type 0} {old mid new : Parser} {a : X} (part : Bool → Part X) → Keeps old mid
-    → Reads (part mid.in_parameter) mid new a → Reads (part old.in_parameter) mid new a
+pub on_flag : {X : Type 0} {old mid new : Parser} {a : X} (part : Bool → SyntaxPart X) → Keeps old mid
+    → HasRead (part mid.in_parameter) mid new a → HasRead (part old.in_parameter) mid new a
 on_flag {X} {old} {mid} {new} {a} part goes r =
-    subst (λ (b : Bool). Reads (part b) mid new a) goes.in_parameter r
+    subst (λ (b : Bool). HasRead (part b) mid new a) goes.in_parameter r
 
-pub on_names : {X : Type 0} {old mid new : Parser} {a : X} (part : Bool → List (Vec ℕ) → Part X) → Keeps old mid
-    → Reads (part mid.in_parameter mid.names.now) mid new a → Reads (part old.in_parameter old.names.now) mid new a
+pub on_names : {X : Type 0} {old mid new : Parser} {a : X} (part : Bool → List (Vec ℕ) → SyntaxPart X) → Keeps old mid
+    → HasRead (part mid.in_parameter mid.names.now) mid new a → HasRead (part old.in_parameter old.names.now) mid new a
 on_names {X} {old} {mid} {new} {a} part goes r =
-    subst (λ (b : Bool). Reads (part b old.names.now) mid new a) goes.in_parameter
-    (subst (λ (n : List (Vec ℕ)). Reads (part mid.in_parameter n) mid new a) goes.names r)
+    subst (λ (b : Bool). HasRead (part b old.names.now) mid new a) goes.in_parameter
+    (subst (λ (n : List (Vec ℕ)). HasRead (part mid.in_parameter n) mid new a) goes.names r)
 
 -- what is refused before a part, where the part can't stand there
-pub read_behind_refusal : {X : Type 0} {part : Part X} {old mid new : Parser} {a : X}
+pub read_behind_refusal : {X : Type 0} {part : SyntaxPart X} {old mid new : Parser} {a : X}
     → Keeps old mid → (mid.fault ≡ None → mid ≡ old) → ((x : X) (rest : List Token) → part.behind x (Some old.rest.now) ≡ Some rest → mid ≡ old)
-    → Reads part mid new a → Reads part old new a
+    → HasRead part mid new a → HasRead part old new a
 read_behind_refusal {X} {part} {old} {mid} {new} {a} goes kept other r = record {
   goes = keeps_on goes r.goes;
   finds = λ x rest sound e may ends.
@@ -157,11 +157,11 @@ read_behind_refusal {X} {part} {old} {mid} {new} {a} goes kept other r = record 
 }
 
 -- the same part, where less may come behind it
-abbrev pub ended : {X : Type 0} → Part X → (List Token → Bool) → Part X
+abbrev pub ended : {X : Type 0} → SyntaxPart X → (List Token → Bool) → SyntaxPart X
 ended part ends = record { behind = part.behind; May = part.May; Same = part.Same; ends = ends }
 
-pub read_ended : {X : Type 0} {part : Part X} {old new : Parser} {a : X} (ends : List Token → Bool)
-    → ((rest : List Token) → ends rest ≡ true → part.ends rest ≡ true) → Reads part old new a → Reads (ended part ends) old new a
+pub read_ended : {X : Type 0} {part : SyntaxPart X} {old new : Parser} {a : X} (ends : List Token → Bool)
+    → ((rest : List Token) → ends rest ≡ true → part.ends rest ≡ true) → HasRead part old new a → HasRead (ended part ends) old new a
 read_ended {X} {part} {old} {new} {a} ends enough r = record {
   goes = r.goes;
   finds = λ x rest sound e may f. r.finds x rest sound e may (enough rest f);

@@ -9,8 +9,8 @@ use Rattle.spmd_text.specs.declared.piece.Piece.TheVariants as piece
 use Rattle.spmd_text.specs.declared.piece.Token.{Token}
 use Rattle.spmd_text.specs.Words.{word_code, code}
 use Rattle.spmd_text.specs.declared.fault.ParseReason.{ParseReason}
-use Rattle.spmd_text.specs.parts.Reading.{next_of, behind}
-use Rattle.spmd_text.specs.Spelling.{is_name, is_number, same_number, is_piece, only, after}
+use Rattle.spmd_text.specs.parts.Reading.{next_of, behind_next}
+use Rattle.spmd_text.specs.Spelling.{is_name_piece, is_number_piece, same_number, is_piece, only, after_piece}
 
 -- neither a name nor a number: its code tells it
 unfoldable pub is_plain : Piece → Bool
@@ -59,7 +59,7 @@ same_code p q true e f same = sym (plain_back q e) ∙ (ap piece_of same ∙ pla
 same_code p q false e f same =
     absurd (false≢true (sym (other_back q e) ∙ (ap is_plain (ap piece_of same ∙ plain_back p f) ∙ f)))
 
-same_name : (q : Piece) (k : ℕ) → is_name q k ≡ true → q ≡ piece.Name k
+same_name : (q : Piece) (k : ℕ) → is_name_piece q k ≡ true → q ≡ piece.Name k
 same_name (piece.Name j) k e = ap piece.Name (eqb-true j k e)
 same_name q k e = absurd (false≢true e)
 
@@ -70,7 +70,7 @@ cond_both false b e = absurd (false≢true e)
 numbers_same : (a b : ℤ) → same_number a b ≡ true → a ≡ b
 numbers_same a b e = let both = cond_both (int_le a b) (int_le b a) e in grind (arith, ints)
 
-same_integer : (q : Piece) (n : ℤ) → is_number q n ≡ true → q ≡ piece.Number n
+same_integer : (q : Piece) (n : ℤ) → is_number_piece q n ≡ true → q ≡ piece.Number n
 same_integer (piece.Number m) n e = ap piece.Number (numbers_same m n e)
 same_integer q n e = absurd (false≢true e)
 
@@ -91,7 +91,7 @@ only_some : (b : Bool) (xs ys : List Token) → only b (Some xs) ≡ Some ys →
 only_some true xs ys e = (refl, cc)
 only_some false xs ys e = absurd cc
 
-pub taken : (p : Piece) (here rest : List Token) → after p (Some here) ≡ Some rest → IsTaken p here rest
+pub taken : (p : Piece) (here rest : List Token) → after_piece p (Some here) ≡ Some rest → IsTaken p here rest
 taken p [] rest e = absurd cc
 taken p (t ∷ ts) rest e =
     let both = only_some (is_piece p t.piece) ts rest e in
@@ -105,7 +105,7 @@ piece_same (piece.Number n) e = absurd (false≢true e)
 piece_same p e = refl
 
 -- the next piece is one that the end of the text is not, and was taken
-pub passed : (fault : Option ParseReason) (here : List Token) (p : Piece) → is_plain p ≡ true → (p ≡ piece.TextEnd → ⊥) → next_of fault here ≡ p → after p (Some here) ≡ Some (behind here)
+pub passed : (fault : Option ParseReason) (here : List Token) (p : Piece) → is_plain p ≡ true → (p ≡ piece.TextEnd → ⊥) → next_of fault here ≡ p → after_piece p (Some here) ≡ Some (behind_next here)
 passed (Some why) here p plain other is = absurd (other (sym is))
 passed None [] p plain other is = absurd (other (sym is))
 passed None (t ∷ ts) p plain other is =
@@ -113,6 +113,6 @@ passed None (t ∷ ts) p plain other is =
     ap (λ (b : Bool). only b (Some ts)) same
 
 -- the same, by the codes of the pieces
-pub passed_code : (fault : Option ParseReason) (here : List Token) (p : Piece) → is_plain p ≡ true → (p ≡ piece.TextEnd → ⊥) → nat_eq (code (next_of fault here)) (code p) ≡ true → after p (Some here) ≡ Some (behind here)
+pub passed_code : (fault : Option ParseReason) (here : List Token) (p : Piece) → is_plain p ≡ true → (p ≡ piece.TextEnd → ⊥) → nat_eq (code (next_of fault here)) (code p) ≡ true → after_piece p (Some here) ≡ Some (behind_next here)
 passed_code fault here p plain other is =
     passed fault here p plain other (same_code p (next_of fault here) (is_plain (next_of fault here)) refl plain (eqb-true (code (next_of fault here)) (code p) is))

@@ -5,8 +5,8 @@ use Rattle.spmd_text.specs.declared.fault.ParseReason.{ParseReason}
 use Rattle.spmd_text.specs.declared.fault.ParseReason.TheVariants.{Memory}
 use Rattle.spmd_text.specs.declared.parser.Parser.{Parser}
 use Rattle.spmd_text.specs.declared.piece.Token.{Token}
-use Rattle.spmd_text.specs.parts.Reading.{Finds, noted}
-use Rattle.spmd_text.specs.parts.Parts.{Keeps, Part, Reads}
+use Rattle.spmd_text.specs.parts.Reading.{Finds, first_noted}
+use Rattle.spmd_text.specs.parts.Parts.{Keeps, SyntaxPart, HasRead}
 use Rattle.spmd_text.specs.parts.Statements.{scope_of}
 use Rattle.spmd_text.specs.Statements.{Scope}
 use Rattle.spmd_text.proofs.Going.{goes_failed, never_failed}
@@ -19,16 +19,16 @@ scope_same {old} {mid} goes =
     ∙ (ap (λ (n : List ℕ). record { in_parameter = old.in_parameter; names = old.names.now; parameters = n; loops = mid.loops.items }) goes.parameters
     ∙ ap (λ (n : List ℕ). record { in_parameter = old.in_parameter; names = old.names.now; parameters = old.parameters.items; loops = n }) goes.loops))
 
-pub on_scope : {X : Type 0} {old mid new : Parser} {a : X} (part : Scope → Part X) → Keeps old mid
-    → Reads (part (scope_of mid)) mid new a → Reads (part (scope_of old)) mid new a
-on_scope {X} {old} {mid} {new} {a} part goes r = subst (λ (s : Scope). Reads (part s) mid new a) (scope_same goes) r
+pub on_scope : {X : Type 0} {old mid new : Parser} {a : X} (part : Scope → SyntaxPart X) → Keeps old mid
+    → HasRead (part (scope_of mid)) mid new a → HasRead (part (scope_of old)) mid new a
+on_scope {X} {old} {mid} {new} {a} part goes r = subst (λ (s : Scope). HasRead (part s) mid new a) (scope_same goes) r
 
 -- a part of which some trees are refused
-abbrev pub checked : {X : Type 0} → Part X → (X → Type 0) → Part X
+abbrev pub checked : {X : Type 0} → SyntaxPart X → (X → Type 0) → SyntaxPart X
 checked part P = record { behind = part.behind; May = λ x. part.May x × P x; Same = part.Same; ends = part.ends }
 
-pub reads_checked : {X : Type 0} {part : Part X} {old mid new : Parser} {a : X} (P : X → Type 0) → Reads part old mid a
-    → ((x : X) → part.Same a x → P x → P a) → Keeps mid new → (new.fault ≡ None → (new ≡ mid) × P a) → (P a → new ≡ mid) → Reads (checked part P) old new a
+pub reads_checked : {X : Type 0} {part : SyntaxPart X} {old mid new : Parser} {a : X} (P : X → Type 0) → HasRead part old mid a
+    → ((x : X) → part.Same a x → P x → P a) → Keeps mid new → (new.fault ≡ None → (new ≡ mid) × P a) → (P a → new ≡ mid) → HasRead (checked part P) old new a
 reads_checked {X} {part} {old} {mid} {new} {a} P r alike goes sound_is fits = record {
   goes = keeps_on r.goes goes;
   finds = finds;
@@ -47,9 +47,9 @@ reads_checked {X} {part} {old} {mid} {new} {a} P r alike goes sound_is fits = re
     finds x rest sound e may ends = by_found x rest may.1 (r.finds x rest sound e may.0 ends)
 
 -- what can't stand here is refused
-pub refused_read : {X : Type 0} {part : Part X} {old new : Parser} {a : X} (why : ParseReason) → new ≡ record old { fault = noted old.fault why }
+pub refused_read : {X : Type 0} {part : SyntaxPart X} {old new : Parser} {a : X} (why : ParseReason) → new ≡ record old { fault = first_noted old.fault why }
     → ((x : X) (rest : List Token) → old.fault ≡ None → part.behind x (Some old.rest.now) ≡ Some rest → part.May x → part.ends rest ≡ true → ⊥)
-    → Reads part old new a
+    → HasRead part old new a
 refused_read {X} {part} {old} {new} {a} why is never = record {
   goes = keeps_of (goes_failed old new why is);
   finds = λ x rest sound e may ends. absurd (never x rest sound e may ends);
@@ -58,8 +58,8 @@ refused_read {X} {part} {old} {new} {a} why is never = record {
 }
 
 -- the same behind a part that was read
-pub refused_behind : {X : Type 0} {part : Part X} {old mid new : Parser} {a : X} (why : ParseReason) → Keeps old mid → new ≡ record mid { fault = noted mid.fault why }
-    → ((x : X) → part.May x → ⊥) → Reads part old new a
+pub refused_behind : {X : Type 0} {part : SyntaxPart X} {old mid new : Parser} {a : X} (why : ParseReason) → Keeps old mid → new ≡ record mid { fault = first_noted mid.fault why }
+    → ((x : X) → part.May x → ⊥) → HasRead part old new a
 refused_behind {X} {part} {old} {mid} {new} {a} why goes is never = record {
   goes = keeps_on goes (keeps_of (goes_failed mid new why is));
   finds = λ x rest sound e may ends. absurd (never x may);

@@ -6,20 +6,20 @@ use Rattle.spmd_tree.specs.declared.tree.Statement.{Statement}
 use Rattle.spmd_text.specs.declared.fault.ParseReason.{ParseReason}
 use Rattle.spmd_text.specs.declared.fault.ParseReason.TheVariants.{Memory}
 use Rattle.spmd_text.specs.declared.parser.Parser.{Parser}
-use Rattle.spmd_text.specs.parts.Reading.{noted}
-use Rattle.spmd_text.specs.parts.Statements.{IsInTurn, Makes, flat, flat_all}
+use Rattle.spmd_text.specs.parts.Reading.{first_noted}
+use Rattle.spmd_text.specs.parts.Statements.{IsInTurn, MakesOrLacksMemory, flat, flat_all}
 use Rattle.spmd_text.proofs.Flat.{flat_append}
 
-noted_twice : (fault : Option ParseReason) → noted (noted fault Memory) Memory ≡ noted fault Memory
+noted_twice : (fault : Option ParseReason) → first_noted (first_noted fault Memory) Memory ≡ first_noted fault Memory
 noted_twice None = refl
 noted_twice (Some why) = refl
 
-pub made_then : {old mid new : Parser} {A B C : Type 0} → Makes old mid A → Makes mid new B → (A → B → C) → Makes old new C
+pub made_then : {old mid new : Parser} {A B C : Type 0} → MakesOrLacksMemory old mid A → MakesOrLacksMemory mid new B → (A → B → C) → MakesOrLacksMemory old new C
 made_then {old} {mid} {new} (inl (same, a)) (inl (again, b)) to = inl (again ∙ same, to a b)
-made_then {old} {mid} {new} (inl (same, a)) (inr e) to = inr (e ∙ ap (λ (s : Parser). record s { fault = noted s.fault Memory }) same)
+made_then {old} {mid} {new} (inl (same, a)) (inr e) to = inr (e ∙ ap (λ (s : Parser). record s { fault = first_noted s.fault Memory }) same)
 made_then {old} {mid} {new} (inr e) (inl (again, b)) to = inr (again ∙ e)
 made_then {old} {mid} {new} (inr e) (inr f) to =
-    inr (f ∙ (ap (λ (s : Parser). record s { fault = noted s.fault Memory }) e ∙ ap (λ (z : Option ParseReason). record old { fault = z }) (noted_twice old.fault)))
+    inr (f ∙ (ap (λ (s : Parser). record s { fault = first_noted s.fault Memory }) e ∙ ap (λ (z : Option ParseReason). record old { fault = z }) (noted_twice old.fault)))
 
 pub in_turn_flat : (a b made : Statement) (xs ys : List Statement) → flat a ≡ flat_all xs → flat b ≡ flat_all ys → IsInTurn a b made → flat made ≡ flat_all (xs ++ ys)
 in_turn_flat a b made xs ys e f m =

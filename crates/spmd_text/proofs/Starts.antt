@@ -17,9 +17,9 @@ use Rattle.spmd_text.specs.declared.piece.Word.TheVariants as word
 use Rattle.spmd_text.specs.declared.piece.Piece.TheVariants as piece
 use Rattle.spmd_text.specs.declared.piece.Token.{Token}
 use Rattle.spmd_text.specs.Words.{code}
-use Rattle.spmd_text.specs.Spelling.{Rest, after, after_start, call_word, is_piece, kind_word, only}
-use Rattle.spmd_text.specs.parts.Parts.{form_of, form_of_call}
-use Rattle.spmd_text.specs.parts.Statements.{first_word, is_call, is_one, is_simple, put_back}
+use Rattle.spmd_text.specs.Spelling.{Rest, after_piece, after_start, call_word, is_piece, kind_word, only}
+use Rattle.spmd_text.specs.parts.Parts.{syntax_form, form_of_call}
+use Rattle.spmd_text.specs.parts.Statements.{first_word, is_call_word, is_one, is_simple, put_back}
 use Rattle.spmd_text.proofs.NoStar.{left_before, only_left}
 use Rattle.spmd_text.proofs.Parts.{none_some}
 use Rattle.spmd_text.proofs.Pieces.{piece_is}
@@ -28,7 +28,7 @@ pub word_same : (v w : Word) → piece.Word v ≡ piece.Word w → v ≡ w
 word_same v w e = cc
 
 -- the first word and what is left behind it
-pub start_left : (fits : Bool) (t : Token) (w : Word) (here before : List Token) → after (piece.Word w) (only fits (Some (t ∷ here))) ≡ Some before
+pub start_left : (fits : Bool) (t : Token) (w : Word) (here before : List Token) → after_piece (piece.Word w) (only fits (Some (t ∷ here))) ≡ Some before
     → (t.piece ≡ piece.Word w) × (here ≡ before)
 start_left true t w here before e =
     let o = only_left (is_piece (piece.Word w) t.piece) (Some here) before e in
@@ -44,12 +44,12 @@ start_behind F strict l line w v here rest e =
 
 pub start_same : (line : ℕ) (w : Word) (here : List Token) → after_start line w (put_back line w (Some here)) ≡ Some here
 start_same line w here =
-    ap (λ (b : Bool). after (piece.Word w) (only b (Some (record { line = line; piece = piece.Word w } ∷ here)))) (eq-eqb line line refl)
+    ap (λ (b : Bool). after_piece (piece.Word w) (only b (Some (record { line = line; piece = piece.Word w } ∷ here)))) (eq-eqb line line refl)
     ∙ ap (λ (b : Bool). only b (Some here)) (eq-eqb (code (piece.Word w)) (code (piece.Word w)) refl)
 
 -- ---- the word of a call
 
-pub form_of_word : (c : Arguments) → form_of (call_word c) ≡ Some (form_of_call c)
+pub form_of_word : (c : Arguments) → syntax_form (call_word c) ≡ Some (form_of_call c)
 form_of_word (call.Send Standard None d t c) = refl
 form_of_word (call.Send Standard (Some f) d t c) = refl
 form_of_word (call.Send Synchronous None d t c) = refl
@@ -74,8 +74,8 @@ form_of_word (call.Collective kind.AllGather root g c) = refl
 form_of_word (call.Collective kind.AllToAll root g c) = refl
 form_of_word (call.Collective kind.Scan root g c) = refl
 
-pub no_call : (c : Arguments) (w : Word) → form_of w ≡ None → call_word c ≡ w → ⊥
-no_call c w none e = none_some (form_of_call c) (sym none ∙ (ap form_of (sym e) ∙ form_of_word c))
+pub no_call : (c : Arguments) (w : Word) → syntax_form w ≡ None → call_word c ≡ w → ⊥
+no_call c w none e = none_some (form_of_call c) (sym none ∙ (ap syntax_form (sym e) ∙ form_of_word c))
 
 -- the word of a form
 word_of_form : Form → Word
@@ -99,7 +99,7 @@ OfForm : Option Form → Word → Type 0
 OfForm None w = Unit {0}
 OfForm (Some f) w = word_of_form f ≡ w
 
-of_word : (w : Word) → OfForm (form_of w) w
+of_word : (w : Word) → OfForm (syntax_form w) w
 unfolding word_of_form OfForm
 of_word word.Send = refl
 of_word word.Ssend = refl
@@ -145,7 +145,7 @@ of_call (call.SendReceive d t s u c) = refl
 of_call (call.Collective k root g c) = refl
 
 -- a call of the form that the word begins has this word
-pub word_of_call : (w : Word) (f : Form) (c : Arguments) → form_of w ≡ Some f → form_of_call c ≡ f → call_word c ≡ w
+pub word_of_call : (w : Word) (f : Form) (c : Arguments) → syntax_form w ≡ Some f → form_of_call c ≡ f → call_word c ≡ w
 unfolding OfForm
 word_of_call w f c is same =
     let back : word_of_form f ≡ w = subst (λ (o : Option Form). OfForm o w) is (of_word w) in
@@ -212,10 +212,10 @@ pub record IsCall (s : Statement) : Type 0 where
   pub arguments : Arguments
   pub is : s ≡ statement.Call line arguments
 
-calls_not : (v w : Word) → is_call v ≡ false → v ≡ w → is_call w ≡ true → ⊥
-calls_not v w none same calls = let never : false ≡ true = sym none ∙ (ap is_call same ∙ calls) in cc
+calls_not : (v w : Word) → is_call_word v ≡ false → v ≡ w → is_call_word w ≡ true → ⊥
+calls_not v w none same calls = let never : false ≡ true = sym none ∙ (ap is_call_word same ∙ calls) in cc
 
-pub is_a_call : (s : Statement) (w : Word) → is_call w ≡ true → is_one s ≡ true → first_word s ≡ w → IsCall s
+pub is_a_call : (s : Statement) (w : Word) → is_call_word w ≡ true → is_one s ≡ true → first_word s ≡ w → IsCall s
 is_a_call statement.Nothing w calls one e = absurd (let never : false ≡ true = one in cc)
 is_a_call (statement.Sequence' p a q b) w calls one e = absurd (let never : false ≡ true = one in cc)
 is_a_call (statement.Parameter line name v) w calls one e = absurd (let never : false ≡ true = one in cc)
@@ -228,7 +228,7 @@ is_a_call (statement.Call line c) w calls one e = record { line = line; argument
 is_a_call (statement.WaitAll line requests) w calls one e = absurd (calls_not word.Waitall w refl e calls)
 is_a_call (statement.Unreached line) w calls one e = absurd (calls_not word.Error w refl e calls)
 
-pub simple_call : (w : Word) → is_simple w ≡ true → (w ≡ word.Let → ⊥) → (w ≡ word.Error → ⊥) → (w ≡ word.Waitall → ⊥) → is_call w ≡ true
+pub simple_call : (w : Word) → is_simple w ≡ true → (w ≡ word.Let → ⊥) → (w ≡ word.Error → ⊥) → (w ≡ word.Waitall → ⊥) → is_call_word w ≡ true
 simple_call word.Let simple a b d = absurd (a refl)
 simple_call word.Error simple a b d = absurd (b refl)
 simple_call word.Waitall simple a b d = absurd (d refl)

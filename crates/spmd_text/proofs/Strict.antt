@@ -11,7 +11,7 @@ use Rattle.spmd_tree.specs.declared.tree.Arguments.TheVariants as call
 use Rattle.spmd_text.specs.declared.piece.Word.TheVariants as word
 use Rattle.spmd_text.specs.declared.piece.Piece.{Piece}
 use Rattle.spmd_text.specs.declared.piece.Piece.TheVariants as piece
-use Rattle.spmd_text.specs.Spelling.{Rest, after, after_arguments, after_expression, after_group, after_index, after_label, after_labels, after_optional, after_request, after_root, after_value, after_wild, comparison_piece, only, operator_piece}
+use Rattle.spmd_text.specs.Spelling.{Rest, after_piece, after_arguments, after_expression, after_group, after_index, after_label, after_labels, after_optional, after_request, after_root, after_value, after_wild, comparison_piece, only, operator_piece}
 
 pub only_none : (b : Bool) → only b None ≡ None
 only_none true = refl
@@ -21,8 +21,8 @@ only_none false = refl
 pub only_of : (b : Bool) (z : Rest) → z ≡ None → only b z ≡ None
 only_of b z e = ap (λ (y : Rest). only b y) e ∙ only_none b
 
-pub after_of : (p : Piece) (z : Rest) → z ≡ None → after p z ≡ None
-after_of p z e = ap (λ (y : Rest). after p y) e
+pub after_of : (p : Piece) (z : Rest) → z ≡ None → after_piece p z ≡ None
+after_of p z e = ap (λ (y : Rest). after_piece p y) e
 
 pub none_of : (F : Rest → Rest) → F None ≡ None → (z : Rest) → z ≡ None → F z ≡ None
 none_of F strict z e = ap F e ∙ strict

@@ -4,12 +4,12 @@ use Rattle.spmd_text.specs.declared.fault.ParseReason.{ParseReason}
 use Rattle.spmd_text.specs.declared.fault.ParseReason.TheVariants.{Memory}
 use Rattle.spmd_text.specs.declared.parser.Parser.{Parser}
 use Rattle.spmd_text.specs.declared.piece.Token.{Token}
-use Rattle.spmd_text.specs.parts.Reading.{Finds, Sticks, noted}
-use Rattle.spmd_text.specs.parts.Parts.{Part, Reads}
-use Rattle.spmd_text.specs.parts.Statements.{Makes}
-use Rattle.spmd_text.specs.Statements.{line_at}
+use Rattle.spmd_text.specs.parts.Reading.{Finds, Sticks, first_noted}
+use Rattle.spmd_text.specs.parts.Parts.{SyntaxPart, HasRead}
+use Rattle.spmd_text.specs.parts.Statements.{MakesOrLacksMemory}
+use Rattle.spmd_text.specs.Statements.{line_of_first_piece}
 use Rattle.spmd_text.specs.parts.Lines as lines
-use Rattle.spmd_text.specs.parts.Lines.{IsStuckAt, Level, Steps, Tells, has_text_end}
+use Rattle.spmd_text.specs.parts.Lines.{IsStuckAt, Level, Steps, TellsLine, has_text_end}
 use Rattle.spmd_text.specs.Lines.{closes, is_line}
 use Rattle.spmd_text.proofs.Framing.{longer_line, open_piece}
 use Rattle.spmd_text.proofs.LineEnds.{end_before, runs_end}
@@ -32,7 +32,7 @@ pub record FirstLine (here : List Token) : Type 0 where
   pub split : here ≡ line ++ beyond
   pub one : is_line line ≡ true
   pub kind : kind_at line ≡ kind_at here
-  pub number : line_at here ≡ line_at line
+  pub number : line_of_first_piece here ≡ line_of_first_piece line
 
 pub first_line : (here : List Token) → has_text_end here ≡ true → FirstLine here
 first_line [] ended = absurd (let never : false ≡ true = ended in cc)
@@ -54,7 +54,7 @@ first_line (t ∷ ts) ended = by_first (closes t.piece) refl (λ e. first_line t
 -- ---- stuck
 
 -- no line of the kind that its first piece tells may stand at these levels
-pub stuck_here : (kind : Kind) (levels : List Level) (here : List Token) (number : ℕ) → has_text_end here ≡ true → kind_at here ≡ kind → number ≡ line_at here
+pub stuck_here : (kind : Kind) (levels : List Level) (here : List Token) (number : ℕ) → has_text_end here ≡ true → kind_at here ≡ kind → number ≡ line_of_first_piece here
     → ((line beyond : List Token) (next : List Level) → here ≡ line ++ beyond → ByKind kind levels line next → ⊥) → IsStuckAt levels here number
 stuck_here kind levels here number ended is told never = record {
   before = [];
@@ -105,7 +105,7 @@ pub some_why : (a b : ParseReason) → Some a ≡ Some b → a ≡ b
 some_why a b e = cc
 
 -- where a fault of the grammar came up, no tree of the part stands
-pub none_found : {X : Type 0} {part : Part X} {old new : Parser} {a : X} → Reads part old new a → (why : ParseReason) → old.fault ≡ None → new.fault ≡ Some why → (why ≡ Memory → ⊥)
+pub none_found : {X : Type 0} {part : SyntaxPart X} {old new : Parser} {a : X} → HasRead part old new a → (why : ParseReason) → old.fault ≡ None → new.fault ≡ Some why → (why ≡ Memory → ⊥)
     → (x : X) (rest : List Token) → part.behind x (Some old.rest.now) ≡ Some rest → part.May x → part.ends rest ≡ true → ⊥
 none_found {X} {part} {old} {new} {a} r why sound wrong other x rest e may ends = by_found (r.finds x rest sound e may ends)
   where
@@ -113,9 +113,9 @@ none_found {X} {part} {old} {new} {a} r why sound wrong other x rest e may ends 
     by_found (inl memory) = other (some_why why Memory (sym wrong ∙ memory))
     by_found (inr (there, same)) = none_some why (sym there.sound ∙ wrong)
 
-pub tells_here : (kind : Kind) (levels : List Level) (old new : Parser) (here : List Token) (number : ℕ) → kind_at here ≡ kind → (old.fault ≡ None → number ≡ line_at here)
+pub tells_here : (kind : Kind) (levels : List Level) (old new : Parser) (here : List Token) (number : ℕ) → kind_at here ≡ kind → (old.fault ≡ None → number ≡ line_of_first_piece here)
     → ((why : ParseReason) → old.fault ≡ None → new.fault ≡ Some why → (why ≡ Memory → ⊥) → (line beyond : List Token) (next : List Level) → here ≡ line ++ beyond → ByKind kind levels line next → ⊥)
-    → Tells levels old new here number
+    → TellsLine levels old new here number
 tells_here kind levels old new here number is told never why sound wrong other ended =
     stuck_here kind levels here number ended is (told sound) (never why sound wrong other)
 
@@ -125,11 +125,11 @@ pub record GoesOn (levels : List Level) (mid new : Parser) (here : List Token) (
   pub outer : List Level
   pub there : List Token
   pub runs : RunsTo levels (level ∷ outer) here there
-  pub tells : Tells (level ∷ outer) mid new there number
+  pub tells : TellsLine (level ∷ outer) mid new there number
 
 -- a fault came up before, or comes up now
-pub tells_then : {levels : List Level} (old : Parser) {mid new : Parser} {here : List Token} {n m : ℕ} → Tells levels old mid here n → Sticks mid new
-    → ((why : ParseReason) → mid.fault ≡ Some why → m ≡ n) → (mid.fault ≡ None → GoesOn levels mid new here m) → Tells levels old new here m
+pub tells_then : {levels : List Level} (old : Parser) {mid new : Parser} {here : List Token} {n m : ℕ} → TellsLine levels old mid here n → Sticks mid new
+    → ((why : ParseReason) → mid.fault ≡ Some why → m ≡ n) → (mid.fault ≡ None → GoesOn levels mid new here m) → TellsLine levels old new here m
 tells_then {levels} old {mid} {new} {here} {n} {m} before sticks stays on why sound wrong other ended = by_fault mid.fault refl
   where
     by_fault : (f : Option ParseReason) → mid.fault ≡ f → IsStuckAt levels here m
@@ -139,16 +139,16 @@ tells_then {levels} old {mid} {new} {here} {n} {m} before sticks stays on why so
         (before w sound e (λ f. other (some_why why w (sym wrong ∙ sticks w e) ∙ f)) ended)
 
 -- want of memory is no fault of the grammar
-pub tells_made : {levels : List Level} (old : Parser) {mid new : Parser} {here : List Token} {n : ℕ} {Made : Type 0} → Tells levels old mid here n → Makes mid new Made → Tells levels old new here n
+pub tells_made : {levels : List Level} (old : Parser) {mid new : Parser} {here : List Token} {n : ℕ} {Made : Type 0} → TellsLine levels old mid here n → MakesOrLacksMemory mid new Made → TellsLine levels old new here n
 tells_made {levels} old {mid} {new} {here} {n} {Made} before makes why sound wrong other ended = before why sound (mid_wrong makes) other ended
   where
-    of_noted : (f : Option ParseReason) → noted f Memory ≡ Some why → f ≡ Some why
+    of_noted : (f : Option ParseReason) → first_noted f Memory ≡ Some why → f ≡ Some why
     of_noted None e = absurd (other (sym (some_why Memory why e)))
     of_noted (Some first) e = e
 
-    mid_wrong : Makes mid new Made → mid.fault ≡ Some why
+    mid_wrong : MakesOrLacksMemory mid new Made → mid.fault ≡ Some why
     mid_wrong (inl (same, made)) = sym (ap (λ (s : Parser). s.fault) same) ∙ wrong
     mid_wrong (inr e) = of_noted mid.fault (sym (ap (λ (s : Parser). s.fault) e) ∙ wrong)
 
-pub tells_none : (levels : List Level) (old new : Parser) (here : List Token) (n : ℕ) → new.fault ≡ old.fault → Tells levels old new here n
+pub tells_none : (levels : List Level) (old new : Parser) (here : List Token) (n : ℕ) → new.fault ≡ old.fault → TellsLine levels old new here n
 tells_none levels old new here n same why sound wrong other ended = absurd (none_some why (sym sound ∙ (sym same ∙ wrong)))

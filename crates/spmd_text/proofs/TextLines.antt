@@ -15,16 +15,16 @@ use Rattle.spmd_text.specs.declared.piece.Piece.TheVariants as piece
 use Rattle.spmd_text.specs.declared.piece.Token.{Token}
 use Rattle.spmd_text.specs.declared.reading.Policy.{Policy}
 use Rattle.spmd_text.specs.declared.reading.Policy.TheVariants as policy
-use Rattle.spmd_text.specs.Limits.{IsWithin}
+use Rattle.spmd_text.specs.Limits.{IsTreeWithin}
 use Rattle.spmd_text.specs.parts.Reading.{Finds, Sticks, next, next_of}
 use Rattle.spmd_text.specs.Words.{code}
-use Rattle.spmd_text.specs.Spelling.{after, after_optional, after_parameter, after_policy, after_statement, begins, is_any, is_piece, only, policy_word}
-use Rattle.spmd_text.specs.parts.Parts.{Reads}
-use Rattle.spmd_text.specs.parts.Statements.{Makes, MayOne, MaySpan, behind_all, flat_all, heading_line_part, heading_part, is_end, policy_line_part, scope_of, statements_part}
-use Rattle.spmd_text.specs.Statements.{Scope, is_one_of, line_at, may_give}
-use Rattle.spmd_text.specs.parts.Programs.{Grows, ReadsParameters, is_all_read}
+use Rattle.spmd_text.specs.Spelling.{after_piece, after_optional, after_parameter, after_policy, after_statement, piece_begins, is_any, is_piece, only, word_of_policy}
+use Rattle.spmd_text.specs.parts.Parts.{HasRead}
+use Rattle.spmd_text.specs.parts.Statements.{MakesOrLacksMemory, MayOne, MaySpan, behind_all, flat_all, heading_line_part, heading_part, is_end, policy_line_part, scope_of, statements_part}
+use Rattle.spmd_text.specs.Statements.{Scope, is_one_of, line_of_first_piece, may_give}
+use Rattle.spmd_text.specs.parts.Programs.{GrowsByParameters, ReadsParameters, is_all_read}
 use Rattle.spmd_text.specs.Programs.{parameters_of}
-use Rattle.spmd_text.specs.parts.Lines.{Block, IsEnded, IsStuckAt, Level, Moves, Runs, Steps, Tells, begin, behind_one, has_text_end, in_block, in_loop, is_inner, is_settled, is_text_end, level_at, lists, takes}
+use Rattle.spmd_text.specs.parts.Lines.{Block, IsEnded, IsStuckAt, Level, Moves, Runs, Steps, TellsLine, begin, behind_one, has_text_end, in_block, in_loop, is_inner, is_settled, is_text_end, level_at, lists, takes_statement}
 use Rattle.spmd_text.specs.Lines.{is_line}
 use Rattle.spmd_text.specs.parts.Lines as lines
 use Rattle.spmd_text.proofs.FirstFaults.{RunsEarly, grown, heading_runs, lists_outermost, only_level, parameters_run, policy_runs, step_early, with_parameters}
@@ -50,7 +50,7 @@ never_true e = let never : false ≡ true = e in cc
 -- ---- stuck at the first line
 
 -- no line may stand at these levels
-stuck_first : (levels : List Level) (here : List Token) (number : ℕ) → has_text_end here ≡ true → number ≡ line_at here
+stuck_first : (levels : List Level) (here : List Token) (number : ℕ) → has_text_end here ≡ true → number ≡ line_of_first_piece here
     → ((line beyond : List Token) (next : List Level) → here ≡ line ++ beyond → Steps levels line next → ⊥) → IsStuckAt levels here number
 stuck_first levels here number ended told never = record {
   before = [];
@@ -74,18 +74,18 @@ first_level l m a b e = let same : l ∷ a ≡ m ∷ b = e in let first : l ≡ 
 
 -- at the beginning of a text its heading may stand, and no other line
 only_heading : (l : Level) (outer : List Level) (line : List Token) (next : List Level) → l.block ≡ lines.start → Steps (l ∷ outer) line next
-    → after piece.LineEnd (after (piece.Word word.Spmd) (Some line)) ≡ Some []
+    → after_piece piece.LineEnd (after_piece (piece.Word word.Spmd) (Some line)) ≡ Some []
 only_heading l outer line next first (lines.heading h) = h.spelled
 only_heading l outer line next first (lines.policy h) =
     absurd (let never : lines.start ≡ lines.headed = sym first ∙ (ap (λ (x : Level). x.block) (first_level l h.level outer h.outer h.here) ∙ h.second) in cc)
 only_heading l outer line next first (lines.parameter h) =
     absurd (never_true (sym (ap lists (sym (ap (λ (x : Level). x.block) (first_level l h.level outer h.outer h.here)) ∙ first)) ∙ h.early))
 only_heading l outer line next first (lines.simple h) =
-    absurd (never_true (sym (ap takes (sym (ap (λ (x : Level). x.block) (first_level l h.level outer h.outer h.here)) ∙ first)) ∙ h.begun))
+    absurd (never_true (sym (ap takes_statement (sym (ap (λ (x : Level). x.block) (first_level l h.level outer h.outer h.here)) ∙ first)) ∙ h.begun))
 only_heading l outer line next first (lines.repeat h) =
-    absurd (never_true (sym (ap takes (sym (ap (λ (x : Level). x.block) (first_level l h.level outer h.outer h.here)) ∙ first)) ∙ h.begun))
+    absurd (never_true (sym (ap takes_statement (sym (ap (λ (x : Level). x.block) (first_level l h.level outer h.outer h.here)) ∙ first)) ∙ h.begun))
 only_heading l outer line next first (lines.when h) =
-    absurd (never_true (sym (ap takes (sym (ap (λ (x : Level). x.block) (first_level l h.level outer h.outer h.here)) ∙ first)) ∙ h.begun))
+    absurd (never_true (sym (ap takes_statement (sym (ap (λ (x : Level). x.block) (first_level l h.level outer h.outer h.here)) ∙ first)) ∙ h.begun))
 only_heading l outer line next first (lines.chained h) =
     absurd (let never : lines.start ≡ lines.branch = sym first ∙ (ap (λ (x : Level). x.block) (first_level l h.level outer h.outer h.here) ∙ h.open_branch) in cc)
 only_heading l outer line next first (lines.otherwise h) =
@@ -93,42 +93,42 @@ only_heading l outer line next first (lines.otherwise h) =
 only_heading l outer line next first (lines.end h) =
     absurd (never_true (sym (ap is_inner (sym (ap (λ (x : Level). x.block) (first_level l h.level outer h.outer h.here)) ∙ first)) ∙ h.inner))
 only_heading l outer line next first (lines.text_end h) =
-    absurd (never_true (sym (ap takes (sym (ap (λ (x : Level). x.block) (first_level l h.level outer [] h.here)) ∙ first)) ∙ h.begun))
+    absurd (never_true (sym (ap takes_statement (sym (ap (λ (x : Level). x.block) (first_level l h.level outer [] h.here)) ∙ first)) ∙ h.begun))
 
 -- the line of the policy is wrong
-policy_tells : (old new : Parser) (p : Policy) (scope : Scope) (depth n : ℕ) → Reads policy_line_part old new p → (old.fault ≡ None → n ≡ line_at old.rest.now)
-    → Tells (only_level lines.headed scope depth) old new old.rest.now n
+policy_tells : (old new : Parser) (p : Policy) (scope : Scope) (depth n : ℕ) → HasRead policy_line_part old new p → (old.fault ≡ None → n ≡ line_of_first_piece old.rest.now)
+    → TellsLine (only_level lines.headed scope depth) old new old.rest.now n
 policy_tells old new p scope depth n r told why sound wrong other ended =
     stuck_here kind.policy (only_level lines.headed scope depth) old.rest.now n ended (kind_begins (piece.Word word.Policy) old.rest.now said) (told sound)
     (λ line beyond next split h.
-    none_found r why sound wrong other h.policy beyond (written h.policy beyond (ap (λ (xs : List Token). after piece.LineEnd (after (piece.Word (policy_word h.policy)) (after (piece.Word word.Policy) (Some xs)))) split ∙ (policy_line h.policy).more line beyond h.spelled)) tt refl)
+    none_found r why sound wrong other h.policy beyond (written h.policy beyond (ap (λ (xs : List Token). after_piece piece.LineEnd (after_piece (piece.Word (word_of_policy h.policy)) (after_piece (piece.Word word.Policy) (Some xs)))) split ∙ (policy_line h.policy).more line beyond h.spelled)) tt refl)
   where
-    said : begins (piece.Word word.Policy) (Some old.rest.now) ≡ true
-    said = by (begins (piece.Word word.Policy) (Some old.rest.now)) refl
+    said : piece_begins (piece.Word word.Policy) (Some old.rest.now) ≡ true
+    said = by (piece_begins (piece.Word word.Policy) (Some old.rest.now)) refl
       where
-        by : (b : Bool) → begins (piece.Word word.Policy) (Some old.rest.now) ≡ b → begins (piece.Word word.Policy) (Some old.rest.now) ≡ true
+        by : (b : Bool) → piece_begins (piece.Word word.Policy) (Some old.rest.now) ≡ b → piece_begins (piece.Word word.Policy) (Some old.rest.now) ≡ true
         by true e = e
         by false e =
             absurd (none_found r why sound wrong other policy.Any old.rest.now
-            (not_chosen (begins (piece.Word word.Policy) (Some old.rest.now)) (after piece.LineEnd (after (piece.Word word.Any) (after (piece.Word word.Policy) (Some old.rest.now)))) (Some old.rest.now) e) tt refl)
+            (not_chosen (piece_begins (piece.Word word.Policy) (Some old.rest.now)) (after_piece piece.LineEnd (after_piece (piece.Word word.Any) (after_piece (piece.Word word.Policy) (Some old.rest.now)))) (Some old.rest.now) e) tt refl)
 
-    written : (q : Policy) (beyond : List Token) → after piece.LineEnd (after (piece.Word (policy_word q)) (after (piece.Word word.Policy) (Some old.rest.now))) ≡ Some beyond
+    written : (q : Policy) (beyond : List Token) → after_piece piece.LineEnd (after_piece (piece.Word (word_of_policy q)) (after_piece (piece.Word word.Policy) (Some old.rest.now))) ≡ Some beyond
         → after_policy q (Some old.rest.now) ≡ Some beyond
     written q beyond e =
-        chosen (begins (piece.Word word.Policy) (Some old.rest.now)) (after piece.LineEnd (after (piece.Word (policy_word q)) (after (piece.Word word.Policy) (Some old.rest.now)))) (only (is_any q) (Some old.rest.now)) said ∙ e
+        chosen (piece_begins (piece.Word word.Policy) (Some old.rest.now)) (after_piece piece.LineEnd (after_piece (piece.Word (word_of_policy q)) (after_piece (piece.Word word.Policy) (Some old.rest.now)))) (only (is_any q) (Some old.rest.now)) said ∙ e
 
-pub heading_tells : {old mid new : Parser} {p : Policy} {n m : ℕ} (depth : ℕ) → Reads heading_line_part old mid (tt {0}) → Reads policy_line_part mid new p
-    → (old.fault ≡ None → n ≡ line_at old.rest.now) → (mid.fault ≡ None → m ≡ line_at mid.rest.now) → ((why : ParseReason) → mid.fault ≡ Some why → m ≡ n)
-    → Tells (level_at lines.start old depth ∷ []) old new old.rest.now m
+pub heading_tells : {old mid new : Parser} {p : Policy} {n m : ℕ} (depth : ℕ) → HasRead heading_line_part old mid (tt {0}) → HasRead policy_line_part mid new p
+    → (old.fault ≡ None → n ≡ line_of_first_piece old.rest.now) → (mid.fault ≡ None → m ≡ line_of_first_piece mid.rest.now) → ((why : ParseReason) → mid.fault ≡ Some why → m ≡ n)
+    → TellsLine (level_at lines.start old depth ∷ []) old new old.rest.now m
 heading_tells {old} {mid} {new} {p} {n} {m} depth one two told again stays =
     tells_then old heading two.goes.sticks stays on
   where
-    heading : Tells (level_at lines.start old depth ∷ []) old mid old.rest.now n
+    heading : TellsLine (level_at lines.start old depth ∷ []) old mid old.rest.now n
     heading why sound wrong other ended =
         stuck_first (level_at lines.start old depth ∷ []) old.rest.now n ended (told sound)
         (λ line beyond next split steps.
         none_found one why sound wrong other tt beyond
-        (ap (λ (xs : List Token). after piece.LineEnd (after (piece.Word word.Spmd) (Some xs))) split ∙ heading_line.more line beyond (only_heading (level_at lines.start old depth) [] line next refl steps)) tt refl)
+        (ap (λ (xs : List Token). after_piece piece.LineEnd (after_piece (piece.Word word.Spmd) (Some xs))) split ∙ heading_line.more line beyond (only_heading (level_at lines.start old depth) [] line next refl steps)) tt refl)
 
     on : mid.fault ≡ None → GoesOn (level_at lines.start old depth ∷ []) mid new old.rest.now m
     on sound = record {
@@ -173,15 +173,15 @@ text_end_alone t ts e is = by e.front e.split e.once
         let first : t ≡ u = cc in
         absurd (never_true (sym (ap not (ap is_text_end (sym (ap (λ (v : Token). v.piece) first) ∙ is))) ∙ and_left (not (is_text_end u.piece)) (list_all (λ (v : Token). not (is_text_end v.piece)) front) once))
 
-pub end_text_tells : (old new : Parser) (level : Level) (n : ℕ) → is_inner level.block ≡ false → is_end (next old) ≡ true → IsEnded old.rest.now → (old.fault ≡ None → n ≡ line_at old.rest.now)
-    → is_all_read old.rest.now ≡ false → Tells (level ∷ []) old new old.rest.now n
+pub end_text_tells : (old new : Parser) (level : Level) (n : ℕ) → is_inner level.block ≡ false → is_end (next old) ≡ true → IsEnded old.rest.now → (old.fault ≡ None → n ≡ line_of_first_piece old.rest.now)
+    → is_all_read old.rest.now ≡ false → TellsLine (level ∷ []) old new old.rest.now n
 end_text_tells old new level n outermost ends once told others why sound wrong other ended =
     by_rest old.rest.now once (ap (λ (f : Option ParseReason). is_end (next_of f old.rest.now)) (sym sound) ∙ ends) (told sound) others ended
   where
     not_inner : (m : Level) (outer : List Level) → level ∷ [] ≡ m ∷ outer → is_inner m.block ≡ true → ⊥
     not_inner m outer e f = never_true (sym outermost ∙ (ap (λ (x : Level). is_inner x.block) (first_level level m [] outer e) ∙ f))
 
-    by_rest : (here : List Token) → IsEnded here → is_end (next_of None here) ≡ true → n ≡ line_at here → is_all_read here ≡ false → has_text_end here ≡ true
+    by_rest : (here : List Token) → IsEnded here → is_end (next_of None here) ≡ true → n ≡ line_of_first_piece here → is_all_read here ≡ false → has_text_end here ≡ true
         → IsStuckAt (level ∷ []) here n
     by_rest [] e f g h i = absurd (never_true i)
     by_rest (t ∷ ts) e f g h i = by_piece t.piece refl f
@@ -228,15 +228,15 @@ rows_run (x ∷ xs) b scope depth here rest early may e =
     subst (λ (c : Scope). RunsEarly b scope c depth here rest) both (early_on one two)
 
 -- the scope behind parameters
-scope_grown : {old new : Parser} {names : List ℕ} → Grows old new names → new.fault ≡ None → scope_of new ≡ grown names (scope_of old)
+scope_grown : {old new : Parser} {names : List ℕ} → GrowsByParameters old new names → new.fault ≡ None → scope_of new ≡ grown names (scope_of old)
 scope_grown {old} {new} {names} g sound =
     ap (λ (b : Bool). record { in_parameter = b; names = new.names.now; parameters = new.parameters.items; loops = new.loops.items }) g.in_parameter
     ∙ (ap (λ (ns : List (Vec ℕ)). record { in_parameter = old.in_parameter; names = ns; parameters = new.parameters.items; loops = new.loops.items }) g.names_same
     ∙ (ap (λ (ps : List ℕ). record { in_parameter = old.in_parameter; names = old.names.now; parameters = ps; loops = new.loops.items }) (g.parameters sound)
     ∙ ap (λ (ls : List ℕ). record { in_parameter = old.in_parameter; names = old.names.now; parameters = old.parameters.items ++ names; loops = ls }) g.loops))
 
-parameter_tells : {s mid : Parser} {item : Statement} (block : Block) (depth n : ℕ) → ReadsOne s mid item → (s.fault ≡ None → begins (piece.Word word.Param) (Some s.rest.now) ≡ true)
-    → (s.fault ≡ None → n ≡ line_at s.rest.now) → Tells (level_at block s depth ∷ []) s mid s.rest.now n
+parameter_tells : {s mid : Parser} {item : Statement} (block : Block) (depth n : ℕ) → ReadsOne s mid item → (s.fault ≡ None → piece_begins (piece.Word word.Param) (Some s.rest.now) ≡ true)
+    → (s.fault ≡ None → n ≡ line_of_first_piece s.rest.now) → TellsLine (level_at block s depth ∷ []) s mid s.rest.now n
 parameter_tells {s} {mid} {item} block depth n r said told why sound wrong other ended =
     stuck_here kind.parameter (level_at block s depth ∷ []) s.rest.now n ended (kind_begins (piece.Word word.Param) s.rest.now (said sound)) (told sound)
     (λ line beyond next split h.
@@ -249,16 +249,16 @@ parameter_tells {s} {mid} {item} block depth n r said told why sound wrong other
     by_found beyond (inr (there, same)) = none_some why (sym there.sound ∙ wrong)
 
 -- the line that is told of parameters so far
-pub record ParameterLines (old s : Parser) (before after : ℕ) : Type 0 where
-  pub stays : (why : ParseReason) → old.fault ≡ Some why → after ≡ before
-  pub tells : (block : Block) (depth : ℕ) → lists block ≡ true → Tells (level_at block old depth ∷ []) old s old.rest.now after
+pub record ParameterLines (old s : Parser) (before after_piece : ℕ) : Type 0 where
+  pub stays : (why : ParseReason) → old.fault ≡ Some why → after_piece ≡ before
+  pub tells : (block : Block) (depth : ℕ) → lists block ≡ true → TellsLine (level_at block old depth ∷ []) old s old.rest.now after_piece
 
 pub parameter_lines_begun : (old : Parser) (n : ℕ) → ParameterLines old old n n
 parameter_lines_begun old n = record { stays = λ why e. refl; tells = λ block depth early. tells_none (level_at block old depth ∷ []) old old old.rest.now n refl }
 
 pub parameter_lines_more : {old s mid new : Parser} {list : List Statement} {Made : Type 0} {before at n : ℕ} (item : Statement) → ParametersSoFar old s list → ParameterLines old s before at
-    → nat_eq (code (next_of s.fault s.rest.now)) (code (piece.Word word.Param)) ≡ true → ReadsOne s mid item → (s.fault ≡ None → n ≡ line_at s.rest.now)
-    → ((why : ParseReason) → s.fault ≡ Some why → n ≡ at) → Makes mid new Made → ParameterLines old new before n
+    → nat_eq (code (next_of s.fault s.rest.now)) (code (piece.Word word.Param)) ≡ true → ReadsOne s mid item → (s.fault ≡ None → n ≡ line_of_first_piece s.rest.now)
+    → ((why : ParseReason) → s.fault ≡ Some why → n ≡ at) → MakesOrLacksMemory mid new Made → ParameterLines old new before n
 parameter_lines_more {old} {s} {mid} {new} {list} {Made} {before} {at} {n} item so_far lined is r told stays makes = record {
   stays = λ why e. stays why (so_far.goes.sticks why e) ∙ lined.stays why e;
   tells = λ block depth early. tells_made old (tells_then old (lined.tells block depth early) r.goes.sticks stays (on block depth early)) makes;
@@ -277,21 +277,21 @@ parameter_lines_more {old} {s} {mid} {new} {list} {Made} {before} {at} {n} item 
 
 -- ---- statements behind the heading and the parameters
 
-first_same : (p : Piece) (line beyond : List Token) → is_line line ≡ true → begins p (Some (line ++ beyond)) ≡ begins p (Some line)
+first_same : (p : Piece) (line beyond : List Token) → is_line line ≡ true → piece_begins p (Some (line ++ beyond)) ≡ piece_begins p (Some line)
 first_same p [] beyond one = absurd (never_true one)
 first_same p (t ∷ ts) beyond one = refl
 
 -- what may stand first may stand behind a statement, but for the policy and parameters
-step_late : (b : Block) (scope : Scope) (depth : ℕ) (line : List Token) (next : List Level) → lists b ≡ true → (b ≡ lines.headed → begins (piece.Word word.Policy) (Some line) ≡ false)
-    → begins (piece.Word word.Param) (Some line) ≡ false → Steps (only_level b scope depth) line next → (behind : List Level) × Steps (only_level lines.plain scope depth) line behind
+step_late : (b : Block) (scope : Scope) (depth : ℕ) (line : List Token) (next : List Level) → lists b ≡ true → (b ≡ lines.headed → piece_begins (piece.Word word.Policy) (Some line) ≡ false)
+    → piece_begins (piece.Word word.Param) (Some line) ≡ false → Steps (only_level b scope depth) line next → (behind : List Level) × Steps (only_level lines.plain scope depth) line behind
 step_late b scope depth line next early unsaid unlisted (lines.heading h) =
     absurd (never_true (sym (ap lists (ap (λ (x : Level). x.block) (first_level _ h.level [] h.outer h.here) ∙ h.first)) ∙ early))
 step_late b scope depth line next early unsaid unlisted (lines.policy h) =
     absurd (never_true (sym (unsaid (ap (λ (x : Level). x.block) (first_level _ h.level [] h.outer h.here) ∙ h.second))
-    ∙ word_first (λ z. after piece.LineEnd (after (piece.Word (policy_word h.policy)) z)) refl word.Policy line [] h.spelled))
+    ∙ word_first (λ z. after_piece piece.LineEnd (after_piece (piece.Word (word_of_policy h.policy)) z)) refl word.Policy line [] h.spelled))
 step_late b scope depth line next early unsaid unlisted (lines.parameter h) =
     absurd (never_true (sym unlisted
-    ∙ start_begins (λ z. after piece.LineEnd (after_optional piece.Equals h.value (after (piece.Name h.name) z))) (after_of piece.LineEnd _ (optional_strict piece.Equals h.value)) h.number word.Param line [] h.spelled))
+    ∙ start_begins (λ z. after_piece piece.LineEnd (after_optional piece.Equals h.value (after_piece (piece.Name h.name) z))) (after_of piece.LineEnd _ (optional_strict piece.Equals h.value)) h.number word.Param line [] h.spelled))
 step_late b scope depth line next early unsaid unlisted (lines.simple h) =
     let l = first_level _ h.level [] h.outer h.here in (
       only_level lines.plain scope depth,
@@ -338,7 +338,7 @@ step_late b scope depth line next early unsaid unlisted (lines.when h) =
         number = h.number;
         condition = h.condition;
         deep = subst (λ (x : Level). 1 ≤ x.depth) (sym l) h.deep;
-        within = subst (λ (x : Level). IsWithin 32 x.scope.in_parameter h.condition) (sym l) h.within;
+        within = subst (λ (x : Level). IsTreeWithin 32 x.scope.in_parameter h.condition) (sym l) h.within;
         spelled = h.spelled;
         is = refl;
       }),
@@ -354,14 +354,14 @@ step_late b scope depth line next early unsaid unlisted (lines.text_end h) = (
   lines.text_end (record { level = record { block = lines.plain; scope = scope; depth = depth }; here = refl; begun = refl; outermost = refl; spelled = h.spelled; is = refl }),
 )
 
-stuck_early : (b : Block) (scope : Scope) (depth : ℕ) (here : List Token) (n : ℕ) → lists b ≡ true → (b ≡ lines.headed → begins (piece.Word word.Policy) (Some here) ≡ false)
-    → begins (piece.Word word.Param) (Some here) ≡ false → IsStuckAt (only_level lines.plain scope depth) here n → IsStuckAt (only_level b scope depth) here n
+stuck_early : (b : Block) (scope : Scope) (depth : ℕ) (here : List Token) (n : ℕ) → lists b ≡ true → (b ≡ lines.headed → piece_begins (piece.Word word.Policy) (Some here) ≡ false)
+    → piece_begins (piece.Word word.Param) (Some here) ≡ false → IsStuckAt (only_level lines.plain scope depth) here n → IsStuckAt (only_level b scope depth) here n
 stuck_early b scope depth here n early unsaid unlisted s = by_runs s.runs
   where
     by_runs : Runs s.reached (only_level lines.plain scope depth) s.before → IsStuckAt (only_level b scope depth) here n
     by_runs (lines.done is none) =
         let at_bad : here ≡ s.bad ++ s.beyond = s.split ∙ ap (λ (xs : List Token). xs ++ s.bad ++ s.beyond) none in
-        let same : (p : Piece) → begins p (Some here) ≡ begins p (Some s.bad) = λ p. ap (λ (xs : List Token). begins p (Some xs)) at_bad ∙ first_same p s.bad s.beyond s.one in
+        let same : (p : Piece) → piece_begins p (Some here) ≡ piece_begins p (Some s.bad) = λ p. ap (λ (xs : List Token). piece_begins p (Some xs)) at_bad ∙ first_same p s.bad s.beyond s.one in
         record {
           before = s.before;
           bad = s.bad;
@@ -393,7 +393,7 @@ stuck_early b scope depth here n early unsaid unlisted s = by_runs s.runs
 record Led (levels : List Level) (s : Parser) (here : List Token) : Type 0 where
   pub block : Block
   pub early : lists block ≡ true
-  pub unsaid : block ≡ lines.headed → begins (piece.Word word.Policy) (Some s.rest.now) ≡ false
+  pub unsaid : block ≡ lines.headed → piece_begins (piece.Word word.Policy) (Some s.rest.now) ≡ false
   pub runs : RunsTo levels (only_level block (scope_of s) 32) here s.rest.now
 
 -- lines lead to where the text may end
@@ -402,10 +402,10 @@ record Ends (levels : List Level) (s : Parser) (here : List Token) : Type 0 wher
   pub outermost : is_inner block ≡ false
   pub runs : RunsTo levels (only_level block (scope_of s) 32) here s.rest.now
 
-led_heading : {old h : Parser} {p : Policy} → Reads heading_part old h p → h.fault ≡ None → Led (level_at lines.start old 32 ∷ []) h old.rest.now
+led_heading : {old h : Parser} {p : Policy} → HasRead heading_part old h p → h.fault ≡ None → Led (level_at lines.start old 32 ∷ []) h old.rest.now
 led_heading {old} {h} {p} r sound =
     let e = r.stands sound in
-    let mid = left_before (after_policy p) (policy_line_strict p) (after piece.LineEnd (after (piece.Word word.Spmd) (Some old.rest.now))) h.rest.now e in
+    let mid = left_before (after_policy p) (policy_line_strict p) (after_piece piece.LineEnd (after_piece (piece.Word word.Spmd) (Some old.rest.now))) h.rest.now e in
     let f = heading_runs (scope_of old) 32 old.rest.now mid.0 mid.1 in
     let g = policy_runs p (scope_of old) 32 mid.0 h.rest.now (ap (after_policy p) (sym mid.1) ∙ e) in
     record {
@@ -421,11 +421,11 @@ led_parameters {levels} {h} {p} {heads} {here} led r sound =
     record {
       block = e.block;
       early = e.early;
-      unsaid = λ f. let k = e.kept f in ap (λ (xs : List Token). begins (piece.Word word.Policy) (Some xs)) (sym k.1) ∙ led.unsaid k.0;
+      unsaid = λ f. let k = e.kept f in ap (λ (xs : List Token). piece_begins (piece.Word word.Policy) (Some xs)) (sym k.1) ∙ led.unsaid k.0;
       runs = subst (λ (c : Scope). RunsTo levels (only_level e.block c 32) here p.rest.now) (sym (scope_grown r.goes sound)) (runs_to_on led.runs e.runs);
     }
 
-ends_statements : {levels : List Level} {p s : Parser} {all : Statement} {here : List Token} → Led levels p here → Reads (statements_part (scope_of p) 32) p s all → s.fault ≡ None → Ends levels s here
+ends_statements : {levels : List Level} {p s : Parser} {all : Statement} {here : List Token} → Led levels p here → HasRead (statements_part (scope_of p) 32) p s all → s.fault ≡ None → Ends levels s here
 ends_statements {levels} {p} {s} {all} {here} led r sound = by_runs run.runs
   where
     run : RunsTo (only_level lines.plain (scope_of p) 32) (only_level lines.plain (scope_of p) 32) p.rest.now s.rest.now
@@ -454,20 +454,20 @@ begun_level old unset unnamed outside =
     ∙ ap (λ (ls : List ℕ). record { block = lines.start; scope = record { in_parameter = false; names = old.names.now; parameters = []; loops = ls }; depth = 32 }) outside)
 
 -- what each part of a text tells, from the parser before it to that behind it
-pub record PartTells (old new : Parser) (before after : ℕ) (Told : Type 0) : Type 0 where
+pub record PartTells (old new : Parser) (before after_piece : ℕ) (Told : Type 0) : Type 0 where
   pub sticks : Sticks old new
-  pub stays : (why : ParseReason) → old.fault ≡ Some why → after ≡ before
+  pub stays : (why : ParseReason) → old.fault ≡ Some why → after_piece ≡ before
   pub tells : Told
 
 pub text_tells : {old h p s e n : Parser} {pol : Policy} {heads all : Statement} {a b c d : ℕ} {Made : Type 0} → old.in_parameter ≡ false → old.parameters.items ≡ [] → old.loops.items ≡ []
-    → IsEnded old.rest.now → Reads heading_part old h pol → ((depth : ℕ) → Tells (level_at lines.start old depth ∷ []) old h old.rest.now a) → ReadsParameters h p heads
-    → PartTells h p a b ((block : Block) (depth : ℕ) → lists block ≡ true → Tells (level_at block h depth ∷ []) h p h.rest.now b) → (p.fault ≡ None → begins (piece.Word word.Param) (Some p.rest.now) ≡ false)
-    → Reads (statements_part (scope_of p) 32) p s all
-    → PartTells p s b c ((block : Block) (outer : List Level) → is_settled block ≡ true → Tells (level_at block p 32 ∷ outer) p s p.rest.now c) → (s.fault ≡ None → is_end (next s) ≡ true)
-    → PartTells s e c d ((level : Level) → is_inner level.block ≡ false → is_end (next s) ≡ true → IsEnded s.rest.now → Tells (level ∷ []) s e s.rest.now d)
-    → Makes e n Made → Tells (begin old.names.now ∷ []) old n old.rest.now d
+    → IsEnded old.rest.now → HasRead heading_part old h pol → ((depth : ℕ) → TellsLine (level_at lines.start old depth ∷ []) old h old.rest.now a) → ReadsParameters h p heads
+    → PartTells h p a b ((block : Block) (depth : ℕ) → lists block ≡ true → TellsLine (level_at block h depth ∷ []) h p h.rest.now b) → (p.fault ≡ None → piece_begins (piece.Word word.Param) (Some p.rest.now) ≡ false)
+    → HasRead (statements_part (scope_of p) 32) p s all
+    → PartTells p s b c ((block : Block) (outer : List Level) → is_settled block ≡ true → TellsLine (level_at block p 32 ∷ outer) p s p.rest.now c) → (s.fault ≡ None → is_end (next s) ≡ true)
+    → PartTells s e c d ((level : Level) → is_inner level.block ≡ false → is_end (next s) ≡ true → IsEnded s.rest.now → TellsLine (level ∷ []) s e s.rest.now d)
+    → MakesOrLacksMemory e n Made → TellsLine (begin old.names.now ∷ []) old n old.rest.now d
 text_tells {old} {h} {p} {s} {e} {n} {pol} {heads} {all} {a} {b} {c} {d} unset unnamed outside once one first two second unlisted three third ends fourth makes =
-    subst (λ (l : Level). Tells (l ∷ []) old n old.rest.now d) (begun_level old unset unnamed outside)
+    subst (λ (l : Level). TellsLine (l ∷ []) old n old.rest.now d) (begun_level old unset unnamed outside)
     (tells_made old (tells_then old (tells_then old (tells_then old (first 32) second.sticks second.stays on_parameters) third.sticks third.stays on_statements) fourth.sticks fourth.stays on_end) makes)
   where
     levels : List Level

@@ -13,11 +13,11 @@ use Rattle.spmd_text.specs.declared.piece.Word.TheVariants as word
 use Rattle.spmd_text.specs.declared.piece.Piece.TheVariants as piece
 use Rattle.spmd_text.specs.declared.piece.Token.{Token}
 use Rattle.spmd_text.specs.parts.Joints.{Place}
-use Rattle.spmd_text.specs.Spelling.{Rest, after, after_end, after_head, after_span, after_statement, after_variable, call_word, is_branch, is_tail}
-use Rattle.spmd_text.specs.parts.Parts.{form_of, form_of_call}
+use Rattle.spmd_text.specs.Spelling.{Rest, after_piece, after_end, after_head, after_span, after_statement, after_variable, call_word, is_branch, is_tail}
+use Rattle.spmd_text.specs.parts.Parts.{syntax_form, form_of_call}
 use Rattle.spmd_text.specs.parts.Statements.{MayStatements, MayTail, first_word, is_one, is_simple}
 use Rattle.spmd_text.specs.Statements.{Obeys, Scope, within_loop}
-use Rattle.spmd_text.specs.parts.Lines.{Block, Level, Runs, Steps, behind_one, branch, chained, done, end, is_inner, is_open, is_settled, last, loop, more, otherwise, plain, repeat, settled, simple, start, takes, when}
+use Rattle.spmd_text.specs.parts.Lines.{Block, Level, Runs, Steps, behind_one, branch, chained, done, end, is_inner, is_open_tail, is_settled, last, loop, more, otherwise, plain, repeat, settled, simple, start, takes_statement, when}
 use Rattle.spmd_text.proofs.BlockForms.{not_so}
 use Rattle.spmd_text.proofs.BlockWords.{end_strict, statement_strict}
 use Rattle.spmd_text.proofs.Following.{and_left, and_right}
@@ -71,7 +71,7 @@ runs_one {f} {levels} {next} {here} {rest} takes_one e steps =
     }
 
 abbrev pub block_behind : Statement → Block
-block_behind s = if is_open s then branch else last
+block_behind s = if is_open_tail s then branch else last
 
 -- what stands behind the statements of a branch leads to a branch, or to the last one
 pub record TailRuns (scope : Scope) (depth : ℕ) (outer : List Level) (s : Statement) (here rest : List Token) : Type 0 where
@@ -88,7 +88,7 @@ settled_same branch e = refl
 settled_same last e = refl
 settled_same b e = absurd (false≢true e)
 
-settled_takes : (b : Block) → is_settled b ≡ true → takes b ≡ true
+settled_takes : (b : Block) → is_settled b ≡ true → takes_statement b ≡ true
 settled_takes start e = absurd (false≢true e)
 settled_takes b e = refl
 
@@ -96,7 +96,7 @@ open_inner : (b : Bool) → is_inner (if b then branch else last) ≡ true
 open_inner true = refl
 open_inner false = refl
 
-simple_by : (w : Word) (f : Form) → form_of w ≡ Some f → is_simple w ≡ true
+simple_by : (w : Word) (f : Form) → syntax_form w ≡ Some f → is_simple w ≡ true
 simple_by word.For f e = absurd (let never : None ≡ Some f = e in cc)
 simple_by word.If f e = absurd (let never : None ≡ Some f = e in cc)
 simple_by word.Elif f e = absurd (let never : None ≡ Some f = e in cc)
@@ -240,7 +240,7 @@ if_leads line c p q a b inside behind block scope depth outer here rest is may e
       is = ap (λ (l : List Level). level_of branch scope (depth - 1) ∷ l) (behind_same block scope depth outer is);
     }))
     may.obeys.2 may.obeys.3 e in
-    runs_to_on whole.runs (end_leads whole.level (level ∷ outer) whole.before rest (ap is_inner whole.kind ∙ open_inner (is_open b)) whole.ended)
+    runs_to_on whole.runs (end_leads whole.level (level ∷ outer) whole.before rest (ap is_inner whole.kind ∙ open_inner (is_open_tail b)) whole.ended)
 
 elif_leads : (line : ℕ) (c : Expression) (p q : Place) (a b : Statement) → Leads a → TailLeads b → TailLeads (statement.When' line true c p a q b)
 elif_leads line c p q a b inside behind scope depth outer here rest may e =
@@ -267,7 +267,7 @@ elif_leads line c p q a b inside behind scope depth outer here rest may e =
 else_leads : (p : Place) (a : Statement) → Leads a → TailLeads (statement.Otherwise' p a)
 else_leads p a inside scope depth outer here rest may e =
     let level : Level = level_of branch scope depth in
-    let head : Rest = after piece.LineEnd (after (piece.Word word.Else) (Some here)) in
+    let head : Rest = after_piece piece.LineEnd (after_piece (piece.Word word.Else) (Some here)) in
     let o = only_left (not (is_branch a)) (after_statement a head) rest e in
     let begun = left_before (after_statement a) (statement_strict a) head rest o.1 in
     record {

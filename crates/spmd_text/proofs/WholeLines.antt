@@ -13,7 +13,7 @@ use Rattle.spmd_text.specs.declared.piece.Piece.{Piece}
 use Rattle.spmd_text.specs.declared.piece.Piece.TheVariants as piece
 use Rattle.spmd_text.specs.declared.piece.Token.{Token}
 use Rattle.spmd_text.specs.declared.reading.Policy.{Policy}
-use Rattle.spmd_text.specs.Spelling.{Rest, after, after_end, after_gap, after_head, after_parameter, after_span, after_statement, after_variable, branch_word, call_word, is_piece, only, policy_word, same_number}
+use Rattle.spmd_text.specs.Spelling.{Rest, after_piece, after_end, after_gap, after_head, after_parameter, after_span, after_statement, after_variable, branch_word, call_word, is_piece, only, word_of_policy, same_number}
 use Rattle.spmd_text.specs.parts.Statements.{first_word, is_one, is_simple}
 use Rattle.spmd_text.specs.parts.Lines.{is_text_end}
 use Rattle.spmd_text.specs.Lines.{closes, is_line}
@@ -70,10 +70,10 @@ end_full : (t : Token) → is_piece piece.LineEnd t.piece ≡ true → IsFull (t
 end_full t e =
     let is = piece_is piece.LineEnd t.piece e in record { one = ap closes is; inner = ap (λ (p : Piece). is_text_end p || false) is }
 
-line_ends : Ends (after piece.LineEnd)
+line_ends : Ends (after_piece piece.LineEnd)
 line_ends = record { strict = refl; ended = ended }
   where
-    ended : (here rest : List Token) → after piece.LineEnd (Some here) ≡ Some rest → Ended (after piece.LineEnd) here rest
+    ended : (here rest : List Token) → after_piece piece.LineEnd (Some here) ≡ Some rest → Ended (after_piece piece.LineEnd) here rest
     ended [] rest e = absurd (none_some rest e)
     ended (t ∷ ts) rest e =
         let o = only_left (is_piece piece.LineEnd t.piece) (Some ts) rest e in
@@ -86,46 +86,46 @@ line_ends = record { strict = refl; ended = ended }
 
 -- the step of a loop and the end of the line, where the first piece is the word of a step or not
 abbrev gap_by : Bool → ℤ → Rest → Rest
-gap_by next n z = after piece.LineEnd (if next then after (piece.Number n) (after (piece.Word word.Step) z) else only (same_number n (pos 1)) z)
+gap_by next n z = after_piece piece.LineEnd (if next then after_piece (piece.Number n) (after_piece (piece.Word word.Step) z) else only (same_number n (pos 1)) z)
 
 gap_first : (n : ℤ) (next : Bool) (t : Token) (ts rest : List Token) → is_piece (piece.Word word.Step) t.piece ≡ next → gap_by next n (Some (t ∷ ts)) ≡ Some rest
-    → Ended (λ z. after piece.LineEnd (after_gap n z)) (t ∷ ts) rest
+    → Ended (λ z. after_piece piece.LineEnd (after_gap n z)) (t ∷ ts) rest
 gap_first n true t ts rest is e =
-    let step : Framed (after (piece.Word word.Step)) = framed_word word.Step in
-    let whole : Ends (λ z. after piece.LineEnd (after (piece.Number n) z)) = behind_held (framed_piece (piece.Number n) refl) line_ends in
-    let b = left_before (λ z. after piece.LineEnd (after (piece.Number n) z)) refl (after (piece.Word word.Step) (Some (t ∷ ts))) rest e in
+    let step : Framed (after_piece (piece.Word word.Step)) = framed_word word.Step in
+    let whole : Ends (λ z. after_piece piece.LineEnd (after_piece (piece.Number n) z)) = behind_held (framed_piece (piece.Number n) refl) line_ends in
+    let b = left_before (λ z. after_piece piece.LineEnd (after_piece (piece.Number n) z)) refl (after_piece (piece.Word word.Step) (Some (t ∷ ts))) rest e in
     let o = only_left (is_piece (piece.Word word.Step) t.piece) (Some ts) b.0 b.1 in
-    let c = whole.ended b.0 rest (ap (λ (z : Rest). after piece.LineEnd (after (piece.Number n) z)) (sym b.1) ∙ e) in
+    let c = whole.ended b.0 rest (ap (λ (z : Rest). after_piece piece.LineEnd (after_piece (piece.Number n) z)) (sym b.1) ∙ e) in
     record {
       line = t ∷ c.line;
       split = ap (λ (xs : List Token). t ∷ xs) (same_Some ts b.0 o.1 ∙ c.split);
       full = one_before t (ap closes (piece_is (piece.Word word.Step) t.piece o.0)) c.line c.full;
       alone = λ other.
           ap (λ (k : Bool). gap_by k n (Some (t ∷ (c.line ++ other)))) is
-          ∙ (ap (λ (k : Bool). after piece.LineEnd (after (piece.Number n) (only k (Some (c.line ++ other))))) o.0 ∙ c.alone other);
+          ∙ (ap (λ (k : Bool). after_piece piece.LineEnd (after_piece (piece.Number n) (only k (Some (c.line ++ other))))) o.0 ∙ c.alone other);
     }
 gap_first n false t ts rest is e =
-    let b = left_before (after piece.LineEnd) refl (only (same_number n (pos 1)) (Some (t ∷ ts))) rest e in
+    let b = left_before (after_piece piece.LineEnd) refl (only (same_number n (pos 1)) (Some (t ∷ ts))) rest e in
     let s = only_left (same_number n (pos 1)) (Some (t ∷ ts)) b.0 b.1 in
-    let o = only_left (is_piece piece.LineEnd t.piece) (Some ts) rest (ap (after piece.LineEnd) (s.1 ∙ sym b.1) ∙ e) in
+    let o = only_left (is_piece piece.LineEnd t.piece) (Some ts) rest (ap (after_piece piece.LineEnd) (s.1 ∙ sym b.1) ∙ e) in
     record {
       line = t ∷ [];
       split = ap (λ (xs : List Token). t ∷ xs) (same_Some ts rest o.1);
       full = end_full t o.0;
       alone = λ other.
           ap (λ (k : Bool). gap_by k n (Some (t ∷ other))) is
-          ∙ (ap (λ (k : Bool). after piece.LineEnd (only k (Some (t ∷ other)))) s.0 ∙ ap (λ (k : Bool). only k (Some other)) o.0);
+          ∙ (ap (λ (k : Bool). after_piece piece.LineEnd (only k (Some (t ∷ other)))) s.0 ∙ ap (λ (k : Bool). only k (Some other)) o.0);
     }
 
 -- no line ends where nothing is left
-nothing_left : (b : Bool) → after piece.LineEnd (only b (Some [])) ≡ None
+nothing_left : (b : Bool) → after_piece piece.LineEnd (only b (Some [])) ≡ None
 nothing_left true = refl
 nothing_left false = refl
 
-gap_ends : (n : ℕ) → Ends (λ z. after piece.LineEnd (after_gap (pos n) z))
-gap_ends n = record { strict = ap (after piece.LineEnd) (gap_strict n); ended = ended }
+gap_ends : (n : ℕ) → Ends (λ z. after_piece piece.LineEnd (after_gap (pos n) z))
+gap_ends n = record { strict = ap (after_piece piece.LineEnd) (gap_strict n); ended = ended }
   where
-    ended : (here rest : List Token) → after piece.LineEnd (after_gap (pos n) (Some here)) ≡ Some rest → Ended (λ z. after piece.LineEnd (after_gap (pos n) z)) here rest
+    ended : (here rest : List Token) → after_piece piece.LineEnd (after_gap (pos n) (Some here)) ≡ Some rest → Ended (λ z. after_piece piece.LineEnd (after_gap (pos n) z)) here rest
     ended [] rest e = absurd (none_some rest (sym (nothing_left (same_number (pos n) (pos 1))) ∙ e))
     ended (t ∷ ts) rest e = gap_first (pos n) (is_piece (piece.Word word.Step) t.piece) t ts rest refl e
 
@@ -143,7 +143,7 @@ taker {f} ends = record { alone = alone; more = more }
         ap (λ (xs : List Token). f (Some (xs ++ rest))) (a.split ∙ append-nil a.line) ∙ a.alone rest
 
 -- what ends with the line behind it
-to_end : {f : Rest → Rest} → Framed f → IsLineTaker (λ z. after piece.LineEnd (f z))
+to_end : {f : Rest → Rest} → Framed f → IsLineTaker (λ z. after_piece piece.LineEnd (f z))
 to_end one = taker (behind_held one line_ends)
 
 framed_variable : (line : ℕ) (w : Word) (name : ℕ) → Framed (after_variable line w name)
@@ -151,11 +151,11 @@ framed_variable line w name = framed_on (framed_on (framed_start line w) (framed
 
 -- ---- the lines
 
-pub heading_line : IsLineTaker (λ z. after piece.LineEnd (after (piece.Word word.Spmd) z))
+pub heading_line : IsLineTaker (λ z. after_piece piece.LineEnd (after_piece (piece.Word word.Spmd) z))
 heading_line = to_end (framed_word word.Spmd)
 
-pub policy_line : (p : Policy) → IsLineTaker (λ z. after piece.LineEnd (after (piece.Word (policy_word p)) (after (piece.Word word.Policy) z)))
-policy_line p = to_end (framed_on (framed_word word.Policy) (framed_word (policy_word p)))
+pub policy_line : (p : Policy) → IsLineTaker (λ z. after_piece piece.LineEnd (after_piece (piece.Word (word_of_policy p)) (after_piece (piece.Word word.Policy) z)))
+policy_line p = to_end (framed_on (framed_word word.Policy) (framed_word (word_of_policy p)))
 
 pub parameter_line : (number name : ℕ) (value : Option Expression) → IsLineTaker (after_parameter number name value)
 parameter_line number name value =
@@ -183,13 +183,13 @@ loop_line number name span =
 pub head_line : (number : ℕ) (chained : Bool) (c : Expression) → IsLineTaker (after_head number chained c)
 head_line number chained c = to_end (framed_on (framed_start number (branch_word chained)) (framed_condition c))
 
-pub else_line : IsLineTaker (λ z. after piece.LineEnd (after (piece.Word word.Else) z))
+pub else_line : IsLineTaker (λ z. after_piece piece.LineEnd (after_piece (piece.Word word.Else) z))
 else_line = to_end (framed_word word.Else)
 
 pub end_line : IsLineTaker (after_end false)
 end_line = to_end (framed_word word.End)
 
 -- the end of the text is a line of its own
-pub text_end_line : (line : List Token) → after piece.TextEnd (Some line) ≡ Some [] → is_line line ≡ true
+pub text_end_line : (line : List Token) → after_piece piece.TextEnd (Some line) ≡ Some [] → is_line line ≡ true
 text_end_line line e =
     let t = taken piece.TextEnd line [] e in ap is_line t.here_is ∙ ap closes t.piece_so

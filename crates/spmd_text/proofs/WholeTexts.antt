@@ -10,10 +10,10 @@ use Rattle.spmd_text.specs.declared.piece.Piece.{Piece}
 use Rattle.spmd_text.specs.declared.piece.Piece.TheVariants as piece
 use Rattle.spmd_text.specs.declared.piece.Token.{Token}
 use Rattle.spmd_text.specs.declared.reading.Policy.{Policy}
-use Rattle.spmd_text.specs.parts.Reading.{Finds, Goes, Stands}
-use Rattle.spmd_text.specs.Spelling.{Rest, after_statement, begins, is_branch, only}
-use Rattle.spmd_text.specs.parts.Parts.{Reads, lacks}
-use Rattle.spmd_text.specs.parts.Statements.{IsInTurn, Makes, MayAll, behind_all, ends_statements, first_word, flat, heading_part, is_one, scope_of, statements_part}
+use Rattle.spmd_text.specs.parts.Reading.{Finds, Goes, StandsBefore}
+use Rattle.spmd_text.specs.Spelling.{Rest, after_statement, piece_begins, is_branch, only}
+use Rattle.spmd_text.specs.parts.Parts.{HasRead, lacks}
+use Rattle.spmd_text.specs.parts.Statements.{IsInTurn, MakesOrLacksMemory, MayAll, behind_all, ends_statements, first_word, flat, heading_part, is_one, scope_of, statements_part}
 use Rattle.spmd_text.specs.Statements.{Obeys, Scope}
 use Rattle.spmd_text.specs.parts.Programs.{Meets, ReadsParameters, is_all_read, text_part}
 use Rattle.spmd_text.specs.Programs.{ObeyParameters, ObeysText, behind_parameters, parameters_of}
@@ -46,25 +46,25 @@ param_word (statement.Call line c) one e = no_call c word.Param refl e
 param_word (statement.WaitAll line requests) one e = let never : word.Waitall ≡ word.Param = e in cc
 param_word (statement.Unreached line) one e = let never : word.Error ≡ word.Param = e in cc
 
-all_read_begins : (rest : List Token) → is_all_read rest ≡ true → begins piece.TextEnd (Some rest) ≡ true
+all_read_begins : (rest : List Token) → is_all_read rest ≡ true → piece_begins piece.TextEnd (Some rest) ≡ true
 all_read_begins [] e = absurd (let never : false ≡ true = e in cc)
 all_read_begins (t ∷ []) e = e
 all_read_begins (t ∷ u ∷ us) e = absurd (let never : false ≡ true = e in cc)
 
 all_read_ends : (rest : List Token) → is_all_read rest ≡ true → ends_statements rest ≡ true
 all_read_ends rest e =
-    or_right (begins (piece.Word word.End) (Some rest) || begins (piece.Word word.Else) (Some rest)) (begins (piece.Word word.Elif) (Some rest) || begins piece.TextEnd (Some rest))
-    (or_right (begins (piece.Word word.Elif) (Some rest)) (begins piece.TextEnd (Some rest)) (all_read_begins rest e))
+    or_right (piece_begins (piece.Word word.End) (Some rest) || piece_begins (piece.Word word.Else) (Some rest)) (piece_begins (piece.Word word.Elif) (Some rest) || piece_begins piece.TextEnd (Some rest))
+    (or_right (piece_begins (piece.Word word.Elif) (Some rest)) (piece_begins piece.TextEnd (Some rest)) (all_read_begins rest e))
 
-end_is_no_word : (w : Word) (here : List Token) → begins piece.TextEnd (Some here) ≡ true → begins (piece.Word w) (Some here) ≡ true → ⊥
+end_is_no_word : (w : Word) (here : List Token) → piece_begins piece.TextEnd (Some here) ≡ true → piece_begins (piece.Word w) (Some here) ≡ true → ⊥
 end_is_no_word w [] e f = let never : false ≡ true = e in cc
 end_is_no_word w (t ∷ ts) e f =
     let never : piece.TextEnd ≡ piece.Word w = sym (piece_is piece.TextEnd t.piece e) ∙ piece_is (piece.Word w) t.piece f in cc
 
-lacks_by : (p : Piece) (here : List Token) → (begins p (Some here) ≡ true → ⊥) → lacks p here ≡ true
-lacks_by p here never = by_begins (begins p (Some here)) refl
+lacks_by : (p : Piece) (here : List Token) → (piece_begins p (Some here) ≡ true → ⊥) → lacks p here ≡ true
+lacks_by p here never = by_begins (piece_begins p (Some here)) refl
   where
-    by_begins : (b : Bool) → begins p (Some here) ≡ b → lacks p here ≡ true
+    by_begins : (b : Bool) → piece_begins p (Some here) ≡ b → lacks p here ≡ true
     by_begins true e = absurd (never e)
     by_begins false e = ap not e
 
@@ -75,8 +75,8 @@ before_statements scope b here rest plain obeys e ends =
     let f = flat_of scope 32 b (Some here) rest plain obeys e in
     lacks_by (piece.Word word.Param) here (by_row (flat b) f.0 f.1)
   where
-    by_row : (row : List Statement) → MayAll scope 32 row → behind_all row (Some here) ≡ Some rest → begins (piece.Word word.Param) (Some here) ≡ true → ⊥
-    by_row [] may f starts = end_is_no_word word.Param here (ap (λ (z : Rest). begins piece.TextEnd z) f ∙ all_read_begins rest ends) starts
+    by_row : (row : List Statement) → MayAll scope 32 row → behind_all row (Some here) ≡ Some rest → piece_begins (piece.Word word.Param) (Some here) ≡ true → ⊥
+    by_row [] may f starts = end_is_no_word word.Param here (ap (λ (z : Rest). piece_begins piece.TextEnd z) f ∙ all_read_begins rest ends) starts
     by_row (x ∷ xs) may f starts =
         let between = left_before (behind_all xs) (all_strict xs) (after_statement x (Some here)) rest f in
         param_word x may.0.one (same_begin (first_word x) word.Param here (one_begins x may.0.one here between.0 between.1) starts)
@@ -117,9 +117,9 @@ is_whole names s z rest obeys e = absurd obeys
 
 pub text_read : {old headed held stated ended new : Parser} {p : Policy} {heads all made : Statement}
     → old.in_parameter ≡ false → old.parameters.items ≡ [] → old.loops.items ≡ []
-    → Reads heading_part old headed p → ReadsParameters headed held heads → Reads (statements_part (scope_of held) 32) held stated all
+    → HasRead heading_part old headed p → ReadsParameters headed held heads → HasRead (statements_part (scope_of held) 32) held stated all
     → Goes stated ended → (ended.fault ≡ None → (ended ≡ stated) × (is_all_read stated.rest.now ≡ true)) → (is_all_read stated.rest.now ≡ true → ended ≡ stated)
-    → Makes ended new (IsInTurn heads all made) → Meets (text_part old.names.now) old new (p, made)
+    → MakesOrLacksMemory ended new (IsInTurn heads all made) → Meets (text_part old.names.now) old new (p, made)
 text_read {old} {headed} {held} {stated} {ended} {new} {p} {heads} {all} {made} unset unnamed outside one two three goes sound_is fits makes = record {
   finds = λ x rest sound e may ends. finds x.0 x.1 rest sound e may ends;
   stands = λ sound. whole_stands sound;
@@ -137,12 +137,12 @@ text_read {old} {headed} {held} {stated} {ended} {new} {p} {heads} {all} {made} 
     scope_alike : (a : Statement) → parameters_of heads ≡ parameters_of a → behind_parameters old.names.now heads ≡ behind_parameters old.names.now a
     scope_alike a same = ap (λ (n : List ℕ). record { in_parameter = false; names = old.names.now; parameters = n; loops = [] }) same
 
-    at_end : (rest : List Token) → is_all_read rest ≡ true → Stands stated rest → Finds new rest (Unit {0})
+    at_end : (rest : List Token) → is_all_read rest ≡ true → StandsBefore stated rest → Finds new rest (Unit {0})
     at_end rest ends there =
         finds_made makes (still_found (fits (ap is_all_read there.left ∙ ends)) (inr (there, tt)))
 
     behind_heads : (names : List (Vec ℕ)) (s : Statement) (z : Rest) (rest : List Token) → names ≡ old.names.now → (w : IsWhole names s z rest) → is_all_read rest ≡ true
-        → Stands held w.between → parameters_of heads ≡ parameters_of w.heads → Finds new rest (Unit {0})
+        → StandsBefore held w.between → parameters_of heads ≡ parameters_of w.heads → Finds new rest (Unit {0})
     behind_heads names s z rest named w ends there same =
         found_then stated new rest rest (Unit {0}) (Unit {0})
         (three.finds w.all rest there.sound (ap (λ (ts : List Token). after_statement w.all (Some ts)) there.left ∙ w.second)

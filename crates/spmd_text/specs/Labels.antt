@@ -12,17 +12,17 @@ use Rattle.spmd_tree.specs.declared.tree.Arguments.TheVariants as call
 use Rattle.spmd_tree.specs.declared.tree.Statement.{Statement}
 use Rattle.spmd_tree.specs.declared.tree.Statement.TheVariants as statement
 
-abbrev pub is_digit : ℕ → Bool
-is_digit c = nat_le 48 c && nat_le c 57
+abbrev pub is_digit_byte : ℕ → Bool
+is_digit_byte c = nat_le 48 c && nat_le c 57
 
 abbrev pub are_digits : List ℕ → Bool
 are_digits [] = true
-are_digits (c ∷ cs) = is_digit c && are_digits cs
+are_digits (c ∷ cs) = is_digit_byte c && are_digits cs
 
 -- a to z, and 0 to 9
 abbrev pub are_letters : List ℕ → Bool
 are_letters [] = true
-are_letters (c ∷ cs) = ((nat_le 97 c && nat_le c 122) || is_digit c) && are_letters cs
+are_letters (c ∷ cs) = ((nat_le 97 c && nat_le c 122) || is_digit_byte c) && are_letters cs
 
 -- `ix` and digits, one or more
 abbrev pub is_index : List ℕ → Bool

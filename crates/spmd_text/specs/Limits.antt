@@ -18,23 +18,23 @@ nesting _ = 0
 
 -- of how many parts a row consists that ends with a joint that binds so close, where `parts` stand
 -- in the row that is left of it, which binds so close
-abbrev pub row_of : ℕ → ℕ → ℕ → ℕ
-row_of close left parts = (if nat_eq left close then parts else 1) + 1
+abbrev pub parts_with_joint : ℕ → ℕ → ℕ → ℕ
+parts_with_joint close left parts_in_row = (if nat_eq left close then parts_in_row else 1) + 1
 
 -- how many parts stand in a row, from the left: of joints that bind alike
-abbrev pub parts : Expression → ℕ
-parts (form.Binary' o p a q b) = row_of (closeness_of o) (closeness a) (parts a)
-parts (form.Compare' c p a q b) = row_of 3 (closeness a) (parts a)
-parts (form.Both' p a q b) = row_of 1 (closeness a) (parts a)
-parts (form.Either' p a q b) = row_of 0 (closeness a) (parts a)
-parts _ = 1
+abbrev pub parts_in_row : Expression → ℕ
+parts_in_row (form.Binary' o p a q b) = parts_with_joint (closeness_of o) (closeness a) (parts_in_row a)
+parts_in_row (form.Compare' c p a q b) = parts_with_joint 3 (closeness a) (parts_in_row a)
+parts_in_row (form.Both' p a q b) = parts_with_joint 1 (closeness a) (parts_in_row a)
+parts_in_row (form.Either' p a q b) = parts_with_joint 0 (closeness a) (parts_in_row a)
+parts_in_row _ = 1
 
 -- at most 256 parts stand in a row, anywhere in the tree
 abbrev pub is_narrow : Expression → Bool
-is_narrow (form.Binary' o p a q b) = nat_le (row_of (closeness_of o) (closeness a) (parts a)) 256 && is_narrow a && is_narrow b
-is_narrow (form.Compare' c p a q b) = nat_le (row_of 3 (closeness a) (parts a)) 256 && is_narrow a && is_narrow b
-is_narrow (form.Both' p a q b) = nat_le (row_of 1 (closeness a) (parts a)) 256 && is_narrow a && is_narrow b
-is_narrow (form.Either' p a q b) = nat_le (row_of 0 (closeness a) (parts a)) 256 && is_narrow a && is_narrow b
+is_narrow (form.Binary' o p a q b) = nat_le (parts_with_joint (closeness_of o) (closeness a) (parts_in_row a)) 256 && is_narrow a && is_narrow b
+is_narrow (form.Compare' c p a q b) = nat_le (parts_with_joint 3 (closeness a) (parts_in_row a)) 256 && is_narrow a && is_narrow b
+is_narrow (form.Both' p a q b) = nat_le (parts_with_joint 1 (closeness a) (parts_in_row a)) 256 && is_narrow a && is_narrow b
+is_narrow (form.Either' p a q b) = nat_le (parts_with_joint 0 (closeness a) (parts_in_row a)) 256 && is_narrow a && is_narrow b
 is_narrow (form.Negative' p a) = is_narrow a
 is_narrow (form.Grouped' p a) = is_narrow a
 is_narrow (form.Negation' p a) = is_narrow a
@@ -55,7 +55,7 @@ has_no_rank _ = true
 
 -- the tree is within the limits: nested at most so deep, with no long row, and without `rank` where
 -- the value of a parameter is read
-pub record IsWithin (depth : ℕ) (in_parameter : Bool) (e : Expression) : Type 0 where
+pub record IsTreeWithin (depth : ℕ) (in_parameter : Bool) (e : Expression) : Type 0 where
   pub nested : nesting e ≤ depth
   pub narrow : is_narrow e ≡ true
   pub rankless : in_parameter ≡ true → has_no_rank e ≡ true

@@ -5,7 +5,7 @@ use Rattle.spmd_tree.specs.declared.tree.Statement.{Statement}
 use Rattle.spmd_tree.specs.declared.tree.Statement.TheVariants as statement
 use Rattle.spmd_text.specs.declared.piece.Token.{Token}
 use Rattle.spmd_text.specs.declared.reading.Policy.{Policy}
-use Rattle.spmd_text.specs.Limits.{IsWithin}
+use Rattle.spmd_text.specs.Limits.{IsTreeWithin}
 use Rattle.spmd_text.specs.Spelling.{after_text}
 use Rattle.spmd_text.specs.Rules.{IfThere}
 use Rattle.spmd_text.specs.Statements.{Obeys, Scope, is_one_of}
@@ -23,7 +23,7 @@ parameters_of _ = []
 abbrev pub ObeyParameters : List ℕ → Statement → Type 0
 ObeyParameters names statement.Nothing = Unit {0}
 ObeyParameters names (statement.Sequence' p a q b) = ObeyParameters names a × ObeyParameters (names ++ parameters_of a) b
-ObeyParameters names (statement.Parameter line name e) = (is_one_of names name ≡ false) × IfThere (IsWithin 32 true) e
+ObeyParameters names (statement.Parameter line name e) = (is_one_of names name ≡ false) × IfThere (IsTreeWithin 32 true) e
 ObeyParameters names _ = ⊥
 
 -- what is known behind the parameters of a text
@@ -40,6 +40,6 @@ ObeysText names _ = ⊥
 
 -- these pieces, of these names, are written as this policy and these statements, which keep the
 -- rules and limits
-pub record Says (names : List (Vec ℕ)) (tokens : List Token) (policy : Policy) (program : Statement) : Type 0 where
+pub record SaysProgram (names : List (Vec ℕ)) (tokens : List Token) (policy : Policy) (program : Statement) : Type 0 where
   pub spelled : after_text policy program (Some tokens) ≡ Some []
   pub obeys : ObeysText names program

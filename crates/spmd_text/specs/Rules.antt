@@ -9,7 +9,7 @@ use Rattle.spmd_tree.specs.declared.tree.Labels.TheVariants.{Last, More'}
 use Rattle.spmd_tree.specs.declared.tree.Arguments.{Arguments}
 use Rattle.spmd_tree.specs.declared.tree.Arguments.TheVariants as call
 use Rattle.spmd_text.specs.Labels.{label_fits}
-use Rattle.spmd_text.specs.Limits.{IsWithin}
+use Rattle.spmd_text.specs.Limits.{IsTreeWithin}
 
 -- ---- parts
 
@@ -20,7 +20,7 @@ IfThere May (Some x) = May x
 -- ---- values, where `in_parameter` tells that the value of a parameter is read
 
 abbrev pub MayValue : Bool → Option Expression → Type 0
-MayValue in_parameter = IfThere (IsWithin 32 in_parameter)
+MayValue in_parameter = IfThere (IsTreeWithin 32 in_parameter)
 
 -- ---- requests and handles
 
@@ -40,15 +40,15 @@ MayLabels in_parameter names (More' f p others) = MayLabel in_parameter names f 
 -- ---- the parts of collective calls
 
 pub record MayGroup (in_parameter : Bool) (g : GroupForm) : Type 0 where
-  pub first : IsWithin 32 in_parameter g.first
-  pub last : IsWithin 32 in_parameter g.last
+  pub first : IsTreeWithin 32 in_parameter g.first
+  pub last : IsTreeWithin 32 in_parameter g.last
   pub step : MayValue in_parameter g.step
 
 -- ---- calls
 
 abbrev pub MayCall : Bool → List (Vec ℕ) → Arguments → Type 0
 MayCall in_parameter names (call.Send mode request d t c) =
-    IfThere (MayLabel in_parameter names) request × IsWithin 32 in_parameter d × IsWithin 32 in_parameter t × MayValue in_parameter c
+    IfThere (MayLabel in_parameter names) request × IsTreeWithin 32 in_parameter d × IsTreeWithin 32 in_parameter t × MayValue in_parameter c
 MayCall in_parameter names (call.Receive request s t c) =
     IfThere (MayLabel in_parameter names) request × MayValue in_parameter s × MayValue in_parameter t × MayValue in_parameter c
 MayCall in_parameter names (call.MatchedProbe handle s t c) =
@@ -58,6 +58,6 @@ MayCall in_parameter names (call.MatchedReceive request handle) =
     IfThere (MayLabel in_parameter names) request × MayLabel in_parameter names handle
 MayCall in_parameter names (call.Wait request) = MayLabel in_parameter names request
 MayCall in_parameter names (call.SendReceive d t s u c) =
-    IsWithin 32 in_parameter d × IsWithin 32 in_parameter t × MayValue in_parameter s × MayValue in_parameter u × MayValue in_parameter c
+    IsTreeWithin 32 in_parameter d × IsTreeWithin 32 in_parameter t × MayValue in_parameter s × MayValue in_parameter u × MayValue in_parameter c
 MayCall in_parameter names (call.Collective k root g c) =
     MayValue in_parameter root × IfThere (MayGroup in_parameter) g × MayValue in_parameter c

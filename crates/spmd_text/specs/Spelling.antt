@@ -40,32 +40,32 @@ only false rest = None
 
 -- ---- one piece
 
-abbrev pub is_name : Piece → ℕ → Bool
-is_name (piece.Name j) k = nat_eq j k
-is_name _ k = false
+abbrev pub is_name_piece : Piece → ℕ → Bool
+is_name_piece (piece.Name j) k = nat_eq j k
+is_name_piece _ k = false
 
 abbrev pub same_number : ℤ → ℤ → Bool
 same_number a b = if int_le a b then int_le b a else false
 
-abbrev pub is_number : Piece → ℤ → Bool
-is_number (piece.Number m) n = same_number m n
-is_number _ n = false
+abbrev pub is_number_piece : Piece → ℤ → Bool
+is_number_piece (piece.Number m) n = same_number m n
+is_number_piece _ n = false
 
 -- the second piece is the first one
 abbrev pub is_piece : Piece → Piece → Bool
-is_piece (piece.Name k) q = is_name q k
-is_piece (piece.Number n) q = is_number q n
+is_piece (piece.Name k) q = is_name_piece q k
+is_piece (piece.Number n) q = is_number_piece q n
 is_piece p q = nat_eq (code q) (code p)
 
-abbrev pub begins : Piece → Rest → Bool
-begins p None = false
-begins p (Some []) = false
-begins p (Some (t ∷ ts)) = is_piece p t.piece
+abbrev pub piece_begins : Piece → Rest → Bool
+piece_begins p None = false
+piece_begins p (Some []) = false
+piece_begins p (Some (t ∷ ts)) = is_piece p t.piece
 
-abbrev pub after : Piece → Rest → Rest
-after p None = None
-after p (Some []) = None
-after p (Some (t ∷ ts)) = only (is_piece p t.piece) (Some ts)
+abbrev pub after_piece : Piece → Rest → Rest
+after_piece p None = None
+after_piece p (Some []) = None
+after_piece p (Some (t ∷ ts)) = only (is_piece p t.piece) (Some ts)
 
 -- the first piece stands on this line; none is taken
 abbrev pub on_line : ℕ → Rest → Rest
@@ -117,8 +117,8 @@ same true b = b
 same false b = not b
 
 -- an expression that binds at least so close; a condition or not
-abbrev pub fits : Expression → ℕ → Bool → Bool
-fits e least condition = nat_le least (binding e) && same condition (is_condition e)
+abbrev pub fits_binding : Expression → ℕ → Bool → Bool
+fits_binding e least condition = nat_le least (binding e) && same condition (is_condition e)
 
 abbrev pub operator_piece : Operator → Piece
 operator_piece operator.Plus = piece.Plus
@@ -139,54 +139,54 @@ comparison_piece comparison.Above = piece.Above
 comparison_piece comparison.From = piece.From
 
 abbrev pub after_expression : Expression → Rest → Rest
-after_expression (form.Literal n) rest = after (piece.Number n) rest
-after_expression form.Null rest = after (piece.Word word.Null) rest
-after_expression form.Rank rest = after (piece.Word word.Rank) rest
-after_expression form.Size rest = after (piece.Word word.Size) rest
-after_expression (form.Named k) rest = after (piece.Name k) rest
+after_expression (form.Literal n) rest = after_piece (piece.Number n) rest
+after_expression form.Null rest = after_piece (piece.Word word.Null) rest
+after_expression form.Rank rest = after_piece (piece.Word word.Rank) rest
+after_expression form.Size rest = after_piece (piece.Word word.Size) rest
+after_expression (form.Named k) rest = after_piece (piece.Name k) rest
 after_expression (form.Binary' o p a q b) rest =
-    only (fits a (left_of o) false && fits b (right_of o) false) (after_expression b (after (operator_piece o) (after_expression a rest)))
+    only (fits_binding a (left_of o) false && fits_binding b (right_of o) false) (after_expression b (after_piece (operator_piece o) (after_expression a rest)))
 after_expression (form.Compare' c p a q b) rest =
-    only (fits a 4 false && fits b 4 false) (after_expression b (after (comparison_piece c) (after_expression a rest)))
-after_expression (form.Negative' p a) rest = only (fits a 8 false) (after_expression a (after piece.Minus rest))
-after_expression (form.Grouped' p a) rest = after piece.Close (after_expression a (after piece.Open rest))
-after_expression (form.Negation' p a) rest = only (fits a 2 true) (after_expression a (after (piece.Word word.Not) rest))
+    only (fits_binding a 4 false && fits_binding b 4 false) (after_expression b (after_piece (comparison_piece c) (after_expression a rest)))
+after_expression (form.Negative' p a) rest = only (fits_binding a 8 false) (after_expression a (after_piece piece.Minus rest))
+after_expression (form.Grouped' p a) rest = after_piece piece.Close (after_expression a (after_piece piece.Open rest))
+after_expression (form.Negation' p a) rest = only (fits_binding a 2 true) (after_expression a (after_piece (piece.Word word.Not) rest))
 after_expression (form.Both' p a q b) rest =
-    only (fits a 1 true && fits b 2 true) (after_expression b (after (piece.Word word.And) (after_expression a rest)))
+    only (fits_binding a 1 true && fits_binding b 2 true) (after_expression b (after_piece (piece.Word word.And) (after_expression a rest)))
 after_expression (form.Either' p a q b) rest =
-    only (fits a 0 true && fits b 1 true) (after_expression b (after (piece.Word word.Or) (after_expression a rest)))
+    only (fits_binding a 0 true && fits_binding b 1 true) (after_expression b (after_piece (piece.Word word.Or) (after_expression a rest)))
 after_expression (form.Choice' p c q a s b) rest =
-    only (fits c 0 true && fits a 4 false && fits b 4 false)
-    (after_expression b (after (piece.Word word.Else) (after_expression a (after (piece.Word word.Then) (after_expression c (after (piece.Word word.If) rest))))))
+    only (fits_binding c 0 true && fits_binding a 4 false && fits_binding b 4 false)
+    (after_expression b (after_piece (piece.Word word.Else) (after_expression a (after_piece (piece.Word word.Then) (after_expression c (after_piece (piece.Word word.If) rest))))))
 
 -- a number or null
 abbrev pub after_value : Expression → Rest → Rest
-after_value e rest = only (fits e 4 false) (after_expression e rest)
+after_value e rest = only (fits_binding e 4 false) (after_expression e rest)
 
 abbrev pub after_condition : Expression → Rest → Rest
-after_condition e rest = only (fits e 0 true) (after_expression e rest)
+after_condition e rest = only (fits_binding e 0 true) (after_expression e rest)
 
 -- a value that may be left out, with the piece before it
 abbrev pub after_optional : Piece → Option Expression → Rest → Rest
 after_optional p None rest = rest
-after_optional p (Some e) rest = after_value e (after p rest)
+after_optional p (Some e) rest = after_value e (after_piece p rest)
 
 -- ---- calls
 
 abbrev pub after_index : Option Expression → Rest → Rest
 after_index None rest = rest
-after_index (Some e) rest = after piece.CloseIndex (after_value e (after piece.OpenIndex rest))
+after_index (Some e) rest = after_piece piece.CloseIndex (after_value e (after_piece piece.OpenIndex rest))
 
 abbrev pub after_label : LabelForm → Rest → Rest
-after_label f rest = after_index f.index (after (piece.Name f.name) rest)
+after_label f rest = after_index f.index (after_piece (piece.Name f.name) rest)
 
 -- the request of a call that is started, and a comma
 abbrev pub after_request : Option LabelForm → Rest → Rest
 after_request None rest = rest
-after_request (Some f) rest = after piece.Comma (after_label f rest)
+after_request (Some f) rest = after_piece piece.Comma (after_label f rest)
 
 abbrev pub after_wild : Option Expression → Rest → Rest
-after_wild None rest = after piece.Star rest
+after_wild None rest = after_piece piece.Star rest
 after_wild (Some e) rest = after_value e rest
 
 abbrev pub after_communicator : Option Expression → Rest → Rest
@@ -194,11 +194,11 @@ after_communicator c rest = after_optional (piece.Word word.Comm) c rest
 
 -- a destination, a comma and a tag
 abbrev pub after_message : Expression → Expression → Rest → Rest
-after_message d t rest = after_value t (after piece.Comma (after_value d rest))
+after_message d t rest = after_value t (after_piece piece.Comma (after_value d rest))
 
 -- a source, a comma and a tag
 abbrev pub after_pattern : Option Expression → Option Expression → Rest → Rest
-after_pattern s t rest = after_wild t (after piece.Comma (after_wild s rest))
+after_pattern s t rest = after_wild t (after_piece piece.Comma (after_wild s rest))
 
 abbrev pub after_root : Option Expression → Rest → Rest
 after_root None rest = rest
@@ -207,15 +207,15 @@ after_root (Some e) rest = after_value e rest
 abbrev pub after_group : Option GroupForm → Rest → Rest
 after_group None rest = rest
 after_group (Some g) rest =
-    after_optional (piece.Word word.Step) g.step (after_value g.last (after (piece.Word word.To) (after_value g.first (after (piece.Word word.Among) rest))))
+    after_optional (piece.Word word.Step) g.step (after_value g.last (after_piece (piece.Word word.To) (after_value g.first (after_piece (piece.Word word.Among) rest))))
 
-abbrev pub send_word : Mode → Option LabelForm → Word
-send_word Standard None = word.Send
-send_word Standard (Some f) = word.Isend
-send_word Synchronous None = word.Ssend
-send_word Synchronous (Some f) = word.Issend
-send_word Buffered None = word.Bsend
-send_word Buffered (Some f) = word.Ibsend
+abbrev pub word_of_send : Mode → Option LabelForm → Word
+word_of_send Standard None = word.Send
+word_of_send Standard (Some f) = word.Isend
+word_of_send Synchronous None = word.Ssend
+word_of_send Synchronous (Some f) = word.Issend
+word_of_send Buffered None = word.Bsend
+word_of_send Buffered (Some f) = word.Ibsend
 
 abbrev pub receive_word : Option LabelForm → Word
 receive_word None = word.Recv
@@ -249,7 +249,7 @@ has_root (Some e) = true
 
 -- the word that a call begins with
 abbrev pub call_word : Arguments → Word
-call_word (call.Send mode request d t c) = send_word mode request
+call_word (call.Send mode request d t c) = word_of_send mode request
 call_word (call.Receive request s t c) = receive_word request
 call_word (call.MatchedProbe handle s t c) = word.Mprobe
 call_word (call.Probe s t c) = word.Probe
@@ -262,20 +262,20 @@ call_word (call.Collective k root g c) = kind_word k
 abbrev pub after_arguments : Arguments → Rest → Rest
 after_arguments (call.Send mode request d t c) rest = after_communicator c (after_message d t (after_request request rest))
 after_arguments (call.Receive request s t c) rest = after_communicator c (after_pattern s t (after_request request rest))
-after_arguments (call.MatchedProbe handle s t c) rest = after_communicator c (after_pattern s t (after piece.Comma (after_label handle rest)))
+after_arguments (call.MatchedProbe handle s t c) rest = after_communicator c (after_pattern s t (after_piece piece.Comma (after_label handle rest)))
 after_arguments (call.Probe s t c) rest = after_communicator c (after_pattern s t rest)
 after_arguments (call.MatchedReceive request handle) rest = after_label handle (after_request request rest)
 after_arguments (call.Wait request) rest = after_label request rest
-after_arguments (call.SendReceive d t s u c) rest = after_communicator c (after_pattern s u (after piece.Comma (after_message d t rest)))
+after_arguments (call.SendReceive d t s u c) rest = after_communicator c (after_pattern s u (after_piece piece.Comma (after_message d t rest)))
 after_arguments (call.Collective k root g c) rest =
     only (same (is_rooted k) (has_root root)) (after_communicator c (after_group g (after_root root rest)))
 
-abbrev pub after_call : Arguments → Rest → Rest
-after_call c rest = after_arguments c (after (piece.Word (call_word c)) rest)
+abbrev pub after_call_tree : Arguments → Rest → Rest
+after_call_tree c rest = after_arguments c (after_piece (piece.Word (call_word c)) rest)
 
 abbrev pub after_labels : Labels → Rest → Rest
 after_labels (Last f) rest = after_label f rest
-after_labels (More' f p others) rest = after_labels others (after piece.Comma (after_label f rest))
+after_labels (More' f p others) rest = after_labels others (after_piece piece.Comma (after_label f rest))
 
 -- ---- statements
 
@@ -296,8 +296,8 @@ is_tail s = is_branch s || is_nothing s
 -- a step of 1 may be left out
 abbrev pub after_gap : ℤ → Rest → Rest
 after_gap n rest =
-    if begins (piece.Word word.Step) rest
-    then after (piece.Number n) (after (piece.Word word.Step) rest)
+    if piece_begins (piece.Word word.Step) rest
+    then after_piece (piece.Number n) (after_piece (piece.Word word.Step) rest)
     else only (same_number n (pos 1)) rest
 
 abbrev pub branch_word : Bool → Word
@@ -307,42 +307,42 @@ branch_word false = word.If
 -- an `elif` ends with its `if`
 abbrev pub after_end : Bool → Rest → Rest
 after_end true rest = rest
-after_end false rest = after piece.LineEnd (after (piece.Word word.End) rest)
+after_end false rest = after_piece piece.LineEnd (after_piece (piece.Word word.End) rest)
 
 -- a statement begins with this word, on this line
 abbrev pub after_start : ℕ → Word → Rest → Rest
-after_start line w rest = after (piece.Word w) (on_line line rest)
+after_start line w rest = after_piece (piece.Word w) (on_line line rest)
 
 -- a parameter, up to the end of its line
 abbrev pub after_parameter : ℕ → ℕ → Option Expression → Rest → Rest
-after_parameter line name e rest = after piece.LineEnd (after_optional piece.Equals e (after (piece.Name name) (after_start line word.Param rest)))
+after_parameter line name e rest = after_piece piece.LineEnd (after_optional piece.Equals e (after_piece (piece.Name name) (after_start line word.Param rest)))
 
 -- what has this name as its variable, up to the first value
 abbrev pub after_variable : ℕ → Word → ℕ → Rest → Rest
-after_variable line w name rest = after piece.Equals (after (piece.Name name) (after_start line w rest))
+after_variable line w name rest = after_piece piece.Equals (after_piece (piece.Name name) (after_start line w rest))
 
 -- an `if` or an `elif` with its condition, on this line
 abbrev pub after_head : ℕ → Bool → Expression → Rest → Rest
-after_head line chained c rest = after piece.LineEnd (after_condition c (after_start line (branch_word chained) rest))
+after_head line chained c rest = after_piece piece.LineEnd (after_condition c (after_start line (branch_word chained) rest))
 
 -- the ends and the step of a loop, up to the end of the line
 abbrev pub after_span : Expression → Expression → ℤ → Rest → Rest
-after_span first last step rest = after piece.LineEnd (after_gap step (after_value last (after (piece.Word word.To) (after_value first rest))))
+after_span first last step rest = after_piece piece.LineEnd (after_gap step (after_value last (after_piece (piece.Word word.To) (after_value first rest))))
 
 abbrev pub after_statement : Statement → Rest → Rest
 after_statement statement.Nothing rest = rest
 after_statement (statement.Sequence' p a q b) rest = only (not (is_branch a) && not (is_branch b)) (after_statement b (after_statement a rest))
 after_statement (statement.Parameter line name e) rest = after_parameter line name e rest
-after_statement (statement.Assign line name e) rest = after piece.LineEnd (after_value e (after_variable line word.Let name rest))
+after_statement (statement.Assign line name e) rest = after_piece piece.LineEnd (after_value e (after_variable line word.Let name rest))
 after_statement (statement.When' line chained c p a q b) rest =
     only (not (is_branch a) && is_tail b) (after_end chained (after_statement b (after_statement a (after_head line chained c rest))))
 after_statement (statement.Otherwise' p a) rest =
-    only (not (is_branch a)) (after_statement a (after piece.LineEnd (after (piece.Word word.Else) rest)))
+    only (not (is_branch a)) (after_statement a (after_piece piece.LineEnd (after_piece (piece.Word word.Else) rest)))
 after_statement (statement.Repeat' line name first last step p a) rest =
     only (not (is_branch a)) (after_end false (after_statement a (after_span first last (pos step) (after_variable line word.For name rest))))
-after_statement (statement.Call line c) rest = after piece.LineEnd (after_call c (on_line line rest))
-after_statement (statement.WaitAll line requests) rest = after piece.LineEnd (after_labels requests (after_start line word.Waitall rest))
-after_statement (statement.Unreached line) rest = after piece.LineEnd (after_start line word.Error rest)
+after_statement (statement.Call line c) rest = after_piece piece.LineEnd (after_call_tree c (on_line line rest))
+after_statement (statement.WaitAll line requests) rest = after_piece piece.LineEnd (after_labels requests (after_start line word.Waitall rest))
+after_statement (statement.Unreached line) rest = after_piece piece.LineEnd (after_start line word.Error rest)
 
 -- ---- the whole text
 
@@ -367,10 +367,10 @@ abbrev pub is_ordered : Statement → Bool
 is_ordered (statement.Sequence' p a q b) = are_parameters a && has_none b
 is_ordered _ = false
 
-abbrev pub policy_word : Policy → Word
-policy_word policy.Any = word.Any
-policy_word policy.Never = word.Never
-policy_word policy.Always = word.Always
+abbrev pub word_of_policy : Policy → Word
+word_of_policy policy.Any = word.Any
+word_of_policy policy.Never = word.Never
+word_of_policy policy.Always = word.Always
 
 -- the policy `any` may be left out
 abbrev pub is_any : Policy → Bool
@@ -379,10 +379,10 @@ is_any _ = false
 
 abbrev pub after_policy : Policy → Rest → Rest
 after_policy p rest =
-    if begins (piece.Word word.Policy) rest
-    then after piece.LineEnd (after (piece.Word (policy_word p)) (after (piece.Word word.Policy) rest))
+    if piece_begins (piece.Word word.Policy) rest
+    then after_piece piece.LineEnd (after_piece (piece.Word (word_of_policy p)) (after_piece (piece.Word word.Policy) rest))
     else only (is_any p) rest
 
 abbrev pub after_text : Policy → Statement → Rest → Rest
 after_text p s rest =
-    only (is_ordered s) (after piece.TextEnd (after_statement s (after_policy p (after piece.LineEnd (after (piece.Word word.Spmd) rest)))))
+    only (is_ordered s) (after_piece piece.TextEnd (after_statement s (after_policy p (after_piece piece.LineEnd (after_piece (piece.Word word.Spmd) rest)))))

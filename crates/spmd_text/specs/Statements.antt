@@ -5,7 +5,7 @@ use Rattle.std.specs.Global.{Vec}
 use Rattle.spmd_tree.specs.declared.tree.Statement.{Statement, Sequence, Otherwise, When, Repeat}
 use Rattle.spmd_tree.specs.declared.tree.Statement.TheVariants as statement
 use Rattle.spmd_text.specs.declared.piece.Token.{Token}
-use Rattle.spmd_text.specs.Limits.{IsWithin}
+use Rattle.spmd_text.specs.Limits.{IsTreeWithin}
 use Rattle.spmd_text.specs.Rules.{MayCall, MayLabels, count_labels}
 
 -- ---- where statements stand
@@ -33,7 +33,7 @@ may_give scope name = not (is_one_of scope.parameters name) && not (is_one_of sc
 -- ---- rules
 
 -- a step is 1 to 2^32 - 1
-pub record IsStep (step : ℕ) : Type 0 where
+pub record IsLoopStep (step : ℕ) : Type 0 where
   pub some : 1 ≤ step
   pub most : step ≤ 4294967295
 
@@ -43,12 +43,12 @@ abbrev pub Obeys : Scope → ℕ → Statement → Type 0
 Obeys scope depth statement.Nothing = Unit {0}
 Obeys scope depth (statement.Sequence' p a q b) = Obeys scope depth a × Obeys scope depth b
 Obeys scope depth (statement.Parameter line name e) = ⊥
-Obeys scope depth (statement.Assign line name e) = (may_give scope name ≡ true) × IsWithin 32 scope.in_parameter e
+Obeys scope depth (statement.Assign line name e) = (may_give scope name ≡ true) × IsTreeWithin 32 scope.in_parameter e
 Obeys scope depth (statement.When' line chained c p a q b) =
-    (1 ≤ depth) × IsWithin 32 scope.in_parameter c × Obeys scope (depth - 1) a × Obeys scope (depth - 1) b
+    (1 ≤ depth) × IsTreeWithin 32 scope.in_parameter c × Obeys scope (depth - 1) a × Obeys scope (depth - 1) b
 Obeys scope depth (statement.Otherwise' p a) = Obeys scope depth a
 Obeys scope depth (statement.Repeat' line name first last step p a) =
-    (1 ≤ depth) × (may_give scope name ≡ true) × IsWithin 32 scope.in_parameter first × IsWithin 32 scope.in_parameter last × IsStep step
+    (1 ≤ depth) × (may_give scope name ≡ true) × IsTreeWithin 32 scope.in_parameter first × IsTreeWithin 32 scope.in_parameter last × IsLoopStep step
     × Obeys (within_loop name scope) (depth - 1) a
 Obeys scope depth (statement.Call line c) = MayCall scope.in_parameter scope.names c
 Obeys scope depth (statement.WaitAll line requests) = MayLabels scope.in_parameter scope.names requests × (count_labels requests ≤ 1024)
@@ -57,6 +57,6 @@ Obeys scope depth (statement.Unreached line) = Unit {0}
 -- ---- putting together
 
 -- the line of the first piece; 1, where none is left
-abbrev pub line_at : List Token → ℕ
-line_at [] = 1
-line_at (t ∷ ts) = t.line
+abbrev pub line_of_first_piece : List Token → ℕ
+line_of_first_piece [] = 1
+line_of_first_piece (t ∷ ts) = t.line

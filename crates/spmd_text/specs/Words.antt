@@ -40,8 +40,8 @@ probe_of w =
     if bytes_eq w (codes "imrecv") then Some word.Imrecv else
     wait_of w
 
-unfoldable pub receive_of : List ℕ → Option Word
-receive_of w =
+unfoldable pub receive_keyword : List ℕ → Option Word
+receive_keyword w =
     if bytes_eq w (codes "issend") then Some word.Issend else
     if bytes_eq w (codes "ibsend") then Some word.Ibsend else
     if bytes_eq w (codes "recv") then Some word.Recv else
@@ -54,7 +54,7 @@ send_of w =
     if bytes_eq w (codes "ssend") then Some word.Ssend else
     if bytes_eq w (codes "bsend") then Some word.Bsend else
     if bytes_eq w (codes "isend") then Some word.Isend else
-    receive_of w
+    receive_keyword w
 
 unfoldable pub operator_of : List ℕ → Option Word
 operator_of w =
@@ -73,8 +73,8 @@ logic_of w =
     if bytes_eq w (codes "or") then Some word.Or else
     operator_of w
 
-unfoldable pub part_of : List ℕ → Option Word
-part_of w =
+unfoldable pub part_keyword : List ℕ → Option Word
+part_keyword w =
     if bytes_eq w (codes "error") then Some word.Error else
     if bytes_eq w (codes "comm") then Some word.Comm else
     if bytes_eq w (codes "among") then Some word.Among else
@@ -89,10 +89,10 @@ branch_of w =
     if bytes_eq w (codes "then") then Some word.Then else
     if bytes_eq w (codes "elif") then Some word.Elif else
     if bytes_eq w (codes "else") then Some word.Else else
-    part_of w
+    part_keyword w
 
-unfoldable pub block_of : List ℕ → Option Word
-block_of w =
+unfoldable pub block_keyword : List ℕ → Option Word
+block_keyword w =
     if bytes_eq w (codes "param") then Some word.Param else
     if bytes_eq w (codes "let") then Some word.Let else
     if bytes_eq w (codes "for") then Some word.For else
@@ -100,14 +100,14 @@ block_of w =
     if bytes_eq w (codes "step") then Some word.Step else
     branch_of w
 
-unfoldable pub word_of : List ℕ → Option Word
-word_of w =
+unfoldable pub keyword_of : List ℕ → Option Word
+keyword_of w =
     if bytes_eq w (codes "spmd") then Some word.Spmd else
     if bytes_eq w (codes "policy") then Some word.Policy else
     if bytes_eq w (codes "any") then Some word.Any else
     if bytes_eq w (codes "none") then Some word.Never else
     if bytes_eq w (codes "all") then Some word.Always else
-    block_of w
+    block_keyword w
 
 -- ---- pieces are told apart by a number, but for which name or number they are
 

@@ -6,13 +6,13 @@
 
 ghost use Rattle.std.specs.Prelude.{[], ◌∷◌, ◌≡◌, ◌++◌, ◌<◌, ℕ, IsTrue, List, None, Some, false, length, true};
 ghost use Rattle.spmd_tree.specs.declared.tree.Statement.{Statement};
-ghost use Rattle.spmd_text.specs.parts.Parts.{Reads};
+ghost use Rattle.spmd_text.specs.parts.Parts.{HasRead};
 ghost use Rattle.spmd_text.specs.parts.Programs.{Meets, ReadsParameters, is_all_read, text_part};
 ghost use Rattle.spmd_text.specs.parts.Reading.{Goes, next};
-ghost use Rattle.spmd_text.specs.Spelling.{begins, branch_word};
-ghost use Rattle.spmd_text.specs.parts.Lines.{Block, EndsBlock, EndsBranch, IsEnded, Level, Tells, begin, from_word, is_inner, is_settled, level_at, lists, may_hold};
-ghost use Rattle.spmd_text.specs.parts.Statements.{IsInTurn, IsInside, IsOtherwise, IsRepeat, IsWhen, Kept, Makes, begun_part, end_part, flat, flat_all, heading_part, held, held_all, is_end, is_first, one_part, scope_of, statements_part, tail_part, word_of};
-ghost use Rattle.spmd_text.specs.Statements.{line_at, within_loop};
+ghost use Rattle.spmd_text.specs.Spelling.{piece_begins, branch_word};
+ghost use Rattle.spmd_text.specs.parts.Lines.{Block, EndsBlock, EndsBranch, IsEnded, Level, TellsLine, begin, from_word, is_inner, is_settled, level_at, lists, may_hold};
+ghost use Rattle.spmd_text.specs.parts.Statements.{IsInTurn, IsInside, IsOtherwise, IsRepeat, IsWhen, KeptStatement, MakesOrLacksMemory, begun_part, end_part, flat, flat_all, heading_part, held, held_all, is_end, is_first, one_part, scope_of, statements_part, tail_part, keyword_of};
+ghost use Rattle.spmd_text.specs.Statements.{line_of_first_piece, within_loop};
 
 use crate::codes::code;
 use crate::expressions::condition_at;
@@ -26,7 +26,7 @@ use spmd_tree::{Expression, Statement};
 
 /// A statement, and then another one.
 fn in_turn(parser: &mut Parser<'_>, a: Made, b: Made) -> Made
-    ensures { Makes parser.old parser.new (IsInTurn (held a) (held b) (held result)) }
+    ensures { MakesOrLacksMemory parser.old parser.new (IsInTurn (held a) (held b) (held result)) }
 {
     let Some(a) = a else {
         return refuse(parser, ParseReason::Memory);
@@ -40,9 +40,9 @@ fn in_turn(parser: &mut Parser<'_>, a: Made, b: Made) -> Made
 /// The last statements of the list, so many of them, one after another: as a tree that is no
 /// deeper than it has to be.
 fn sequence(parser: &mut Parser<'_>, list: &mut Vec<Made>, count: usize) -> Made
-    ensures { (before popped : List Kept) → list.old.items ≡ before ++ popped → length popped ≡ count →
+    ensures { (before popped : List KeptStatement) → list.old.items ≡ before ++ popped → length popped ≡ count →
         (list.new.items ≡ before) ×
-        Makes parser.old parser.new (flat (held result) ≡ flat_all (held_all popped)) }
+        MakesOrLacksMemory parser.old parser.new (flat (held result) ≡ flat_all (held_all popped)) }
 {
     if count == 0 {
         return keep(parser, Statement::Nothing);
@@ -60,7 +60,7 @@ fn sequence(parser: &mut Parser<'_>, list: &mut Vec<Made>, count: usize) -> Made
 
 /// The statements of the list, one after another.
 fn whole(parser: &mut Parser<'_>, list: Vec<Made>) -> Made
-    ensures { Makes parser.old parser.new (flat (held result) ≡ flat_all (held_all list.items)) }
+    ensures { MakesOrLacksMemory parser.old parser.new (flat (held result) ≡ flat_all (held_all list.items)) }
 {
     let mut list = list;
     let count = list.len();
@@ -69,7 +69,7 @@ fn whole(parser: &mut Parser<'_>, list: Vec<Made>) -> Made
 
 /// Adds a statement to the list, where memory lasts.
 fn add(parser: &mut Parser<'_>, list: &mut Vec<Made>, statement: Made)
-    ensures { Makes parser.old parser.new (held_all list.new.items ≡ held_all list.old.items ++ held statement ∷ []) }
+    ensures { MakesOrLacksMemory parser.old parser.new (held_all list.new.items ≡ held_all list.old.items ++ held statement ∷ []) }
 {
     match list.push(statement) {
         Ok(()) => {}
@@ -86,7 +86,7 @@ fn when(
     yes: Made,
     no: Made,
 ) -> Made
-    ensures { Makes parser.old parser.new (IsWhen line chained condition (held yes) (held no) (held result)) }
+    ensures { MakesOrLacksMemory parser.old parser.new (IsWhen line chained condition (held yes) (held no) (held result)) }
 {
     let Some(yes) = yes else {
         return refuse(parser, ParseReason::Memory);
@@ -106,7 +106,7 @@ fn when(
 
 /// What stands after an `else`.
 fn otherwise(parser: &mut Parser<'_>, statements: Made) -> Made
-    ensures { Makes parser.old parser.new (IsOtherwise (held statements) (held result)) }
+    ensures { MakesOrLacksMemory parser.old parser.new (IsOtherwise (held statements) (held result)) }
 {
     let Some(statements) = statements else {
         return refuse(parser, ParseReason::Memory);
@@ -116,7 +116,7 @@ fn otherwise(parser: &mut Parser<'_>, statements: Made) -> Made
 
 /// The statement that a loop is.
 fn repeat(parser: &mut Parser<'_>, line: u32, name: u32, span: Span, body: Made) -> Made
-    ensures { Makes parser.old parser.new (IsRepeat line name span (held body) (held result)) }
+    ensures { MakesOrLacksMemory parser.old parser.new (IsRepeat line name span (held body) (held result)) }
 {
     let Some(body) = body else {
         return refuse(parser, ParseReason::Memory);
@@ -135,7 +135,7 @@ fn repeat(parser: &mut Parser<'_>, line: u32, name: u32, span: Span, body: Made)
 
 /// The word that a statement begins with. `end`, `else` and `elif` end those before them.
 fn word_of(piece: Piece) -> Option<Word>
-    ensures { result ≡ word_of piece }
+    ensures { result ≡ keyword_of piece }
 {
     match piece {
         Piece::Word(Word::End) => None,
@@ -161,7 +161,7 @@ fn is_end(piece: Piece) -> bool
 
 /// Notes that a line begins, unless something is wrong.
 fn begin_line(parser: &Parser<'_>, at: &mut u32)
-    ensures sound { parser.now.fault ≡ None → at.new ≡ line_at parser.now.rest.now }
+    ensures sound { parser.now.fault ≡ None → at.new ≡ line_of_first_piece parser.now.rest.now }
     ensures stays { (why : ParseReason) → parser.now.fault ≡ Some why → at.new ≡ at.old }
 {
     match parser.fault {
@@ -183,10 +183,10 @@ fn refuse_other(parser: &mut Parser<'_>)
 
 /// The end of a block, behind its statements.
 fn end_block(parser: &mut Parser<'_>, at: &mut u32)
-    ensures reads { Reads (end_part false) parser.old parser.new result }
+    ensures reads { HasRead (end_part false) parser.old parser.new result }
     ensures stays { (why : ParseReason) → parser.old.fault ≡ Some why → at.new ≡ at.old }
     ensures line { (level : Level) (outer : List Level) → EndsBlock level parser.old →
-        Tells (level ∷ outer) parser.old parser.new parser.old.rest.now at.new }
+        TellsLine (level ∷ outer) parser.old parser.new parser.old.rest.now at.new }
 {
     begin_line(parser, at);
     if parser.take(Piece::Word(Word::End)) {
@@ -202,10 +202,10 @@ fn end_block(parser: &mut Parser<'_>, at: &mut u32)
 
 /// The end of a branch: an `elif` ends with its `if`.
 fn end_branch(parser: &mut Parser<'_>, at: &mut u32, chained: bool)
-    ensures reads { Reads (end_part chained) parser.old parser.new result }
+    ensures reads { HasRead (end_part chained) parser.old parser.new result }
     ensures stays { (why : ParseReason) → parser.old.fault ≡ Some why → at.new ≡ at.old }
     ensures line { (level : Level) (outer : List Level) → EndsBlock level parser.old →
-        Tells (level ∷ outer) parser.old parser.new parser.old.rest.now at.new }
+        TellsLine (level ∷ outer) parser.old parser.new parser.old.rest.now at.new }
     ensures same { chained ≡ true → parser.new ≡ parser.old }
 {
     if !chained {
@@ -230,7 +230,7 @@ fn end_text(parser: &mut Parser<'_>, at: &mut u32)
     ensures fits { is_all_read parser.old.rest.now ≡ true → parser.new ≡ parser.old }
     ensures stays { (why : ParseReason) → parser.old.fault ≡ Some why → at.new ≡ at.old }
     ensures line { (level : Level) → is_inner level.block ≡ false → is_end (next parser.old) ≡ true → IsEnded parser.old.rest.now
-        → Tells (level ∷ []) parser.old parser.new parser.old.rest.now at.new }
+        → TellsLine (level ∷ []) parser.old parser.new parser.old.rest.now at.new }
 {
     begin_line(parser, at);
     if is_all_read(parser.rest) {
@@ -249,7 +249,7 @@ fn inside(parser: &mut Parser<'_>, at: &mut u32, depth: u32) -> Made
     ensures reads { IsInside parser.old parser.new depth (held result) }
     ensures stays { (why : ParseReason) → parser.old.fault ≡ Some why → at.new ≡ at.old }
     ensures line { (block : Block) (outer : List Level) → is_settled block ≡ true →
-        Tells (level_at block parser.old depth ∷ outer) parser.old parser.new parser.old.rest.now at.new }
+        TellsLine (level_at block parser.old depth ∷ outer) parser.old parser.new parser.old.rest.now at.new }
     ensures ended { parser.new.fault ≡ None → is_end (next parser.new) ≡ true }
 {
     let body = statements(parser, at, depth);
@@ -260,10 +260,10 @@ fn inside(parser: &mut Parser<'_>, at: &mut u32, depth: u32) -> Made
 /// The statements of a loop of this variable.
 #[cycle(statements)]
 fn body_of(parser: &mut Parser<'_>, at: &mut u32, name: u32, depth: u32) -> Made
-    ensures reads { Reads (statements_part (within_loop name (scope_of parser.old)) depth) parser.old parser.new (held result) }
+    ensures reads { HasRead (statements_part (within_loop name (scope_of parser.old)) depth) parser.old parser.new (held result) }
     ensures stays { (why : ParseReason) → parser.old.fault ≡ Some why → at.new ≡ at.old }
     ensures line { (block : Block) (outer : List Level) → is_settled block ≡ true →
-        Tells (record { block = block; scope = within_loop name (scope_of parser.old); depth = depth } ∷
+        TellsLine (record { block = block; scope = within_loop name (scope_of parser.old); depth = depth } ∷
         outer) parser.old parser.new parser.old.rest.now at.new }
     ensures ended { parser.new.fault ≡ None → is_end (next parser.new) ≡ true }
 {
@@ -276,10 +276,10 @@ fn body_of(parser: &mut Parser<'_>, at: &mut u32, name: u32, depth: u32) -> Made
 /// A loop after its word. At most so many blocks stand within one another, itself among them.
 #[cycle(statements)]
 fn for_loop(parser: &mut Parser<'_>, at: &mut u32, line: u32, depth: u32) -> Made
-    ensures reads { Reads (begun_part (scope_of parser.old) depth line Word.For) parser.old parser.new (held result) }
+    ensures reads { HasRead (begun_part (scope_of parser.old) depth line Word.For) parser.old parser.new (held result) }
     ensures stays { (why : ParseReason) → parser.old.fault ≡ Some why → at.new ≡ at.old }
     ensures line { (block : Block) (outer : List Level) → is_settled block ≡ true → at.old ≡ line →
-        Tells (level_at block parser.old depth ∷ outer) parser.old parser.new (from_word line Word.For
+        TellsLine (level_at block parser.old depth ∷ outer) parser.old parser.new (from_word line Word.For
         parser.old) at.new }
 {
     let name = variable(parser);
@@ -297,10 +297,10 @@ fn for_loop(parser: &mut Parser<'_>, at: &mut u32, line: u32, depth: u32) -> Mad
 /// blocks stand within one another, itself among them.
 #[cycle(statements)]
 fn branch(parser: &mut Parser<'_>, at: &mut u32, line: u32, chained: bool, depth: u32) -> Made
-    ensures reads { Reads (begun_part (scope_of parser.old) depth line (branch_word chained)) parser.old parser.new (held result) }
+    ensures reads { HasRead (begun_part (scope_of parser.old) depth line (branch_word chained)) parser.old parser.new (held result) }
     ensures stays { (why : ParseReason) → parser.old.fault ≡ Some why → at.new ≡ at.old }
     ensures line { (block : Block) (outer : List Level) → may_hold chained block ≡ true → at.old ≡ line →
-        Tells (level_at block parser.old depth ∷ outer) parser.old parser.new (from_word line (branch_word
+        TellsLine (level_at block parser.old depth ∷ outer) parser.old parser.new (from_word line (branch_word
         chained) parser.old) at.new }
     ensures ends { chained ≡ true → parser.new.fault ≡ None → EndsBranch parser.new (held result) }
 {
@@ -318,10 +318,10 @@ fn branch(parser: &mut Parser<'_>, at: &mut u32, line: u32, chained: bool, depth
 /// An `else` after its word.
 #[cycle(statements)]
 fn after_else(parser: &mut Parser<'_>, at: &mut u32, depth: u32) -> Made
-    ensures reads { (line : ℕ) → Reads (begun_part (scope_of parser.old) depth line Word.Else) parser.old parser.new (held result) }
+    ensures reads { (line : ℕ) → HasRead (begun_part (scope_of parser.old) depth line Word.Else) parser.old parser.new (held result) }
     ensures stays { (why : ParseReason) → parser.old.fault ≡ Some why → at.new ≡ at.old }
     ensures line { (line : ℕ) (outer : List Level) → at.old ≡ line →
-        Tells (level_at Block.branch parser.old depth ∷ outer) parser.old parser.new (from_word line Word.Else
+        TellsLine (level_at Block.branch parser.old depth ∷ outer) parser.old parser.new (from_word line Word.Else
         parser.old) at.new }
     ensures ended { parser.new.fault ≡ None → is_end (next parser.new) ≡ true }
 {
@@ -333,10 +333,10 @@ fn after_else(parser: &mut Parser<'_>, at: &mut u32, depth: u32) -> Made
 /// What stands behind the statements of a branch: an `elif`, an `else`, or nothing.
 #[cycle(statements)]
 fn tail(parser: &mut Parser<'_>, at: &mut u32, depth: u32) -> Made
-    ensures reads { Reads (tail_part (scope_of parser.old) depth) parser.old parser.new (held result) }
+    ensures reads { HasRead (tail_part (scope_of parser.old) depth) parser.old parser.new (held result) }
     ensures stays { (why : ParseReason) → parser.old.fault ≡ Some why → at.new ≡ at.old }
     ensures line { (outer : List Level) →
-        Tells (level_at Block.branch parser.old depth ∷ outer) parser.old parser.new parser.old.rest.now
+        TellsLine (level_at Block.branch parser.old depth ∷ outer) parser.old parser.new parser.old.rest.now
         at.new }
     ensures ends { is_end (next parser.old) ≡ true → parser.new.fault ≡ None → EndsBranch parser.new (held result) }
 {
@@ -360,11 +360,11 @@ fn rest_of_statement(
     line: u32,
     depth: u32,
 ) -> Made
-    ensures reads { is_first word ≡ true → Reads (begun_part (scope_of parser.old) depth line word) parser.old parser.new (held result) }
+    ensures reads { is_first word ≡ true → HasRead (begun_part (scope_of parser.old) depth line word) parser.old parser.new (held result) }
     ensures stays { (why : ParseReason) → parser.old.fault ≡ Some why → at.new ≡ at.old }
     ensures line { (block : Block) (outer : List Level) → is_settled block ≡ true →
-        word_of (Piece.Word word) ≡ Some word → at.old ≡ line →
-        Tells (level_at block parser.old depth ∷ outer) parser.old parser.new (from_word line word parser.old)
+        keyword_of (Piece.Word word) ≡ Some word → at.old ≡ line →
+        TellsLine (level_at block parser.old depth ∷ outer) parser.old parser.new (from_word line word parser.old)
         at.new }
 {
     match word {
@@ -378,12 +378,12 @@ fn rest_of_statement(
 #[cycle(statements)]
 fn statement(parser: &mut Parser<'_>, at: &mut u32, word: Word, depth: u32) -> Made
     ensures reads { is_first word ≡ true → next parser.old ≡ Piece.Word word →
-        Reads (one_part (scope_of parser.old) depth word) parser.old parser.new (held result) }
+        HasRead (one_part (scope_of parser.old) depth word) parser.old parser.new (held result) }
     ensures shorter { is_first word ≡ true → next parser.old ≡ Piece.Word word → length parser.new.rest.now < length parser.old.rest.now }
     ensures stays { (why : ParseReason) → parser.old.fault ≡ Some why → at.new ≡ at.old }
     ensures line { (block : Block) (outer : List Level) → is_settled block ≡ true →
-        word_of (Piece.Word word) ≡ Some word → next parser.old ≡ Piece.Word word →
-        Tells (level_at block parser.old depth ∷ outer) parser.old parser.new parser.old.rest.now at.new }
+        keyword_of (Piece.Word word) ≡ Some word → next parser.old ≡ Piece.Word word →
+        TellsLine (level_at block parser.old depth ∷ outer) parser.old parser.new parser.old.rest.now at.new }
 {
     begin_line(parser, at);
     let line = parser.line();
@@ -394,10 +394,10 @@ fn statement(parser: &mut Parser<'_>, at: &mut u32, word: Word, depth: u32) -> M
 /// Statements, up to what ends them. At most so many blocks stand within one another.
 #[cycle(statements)]
 fn statements(parser: &mut Parser<'_>, at: &mut u32, depth: u32) -> Made
-    ensures reads { Reads (statements_part (scope_of parser.old) depth) parser.old parser.new (held result) }
+    ensures reads { HasRead (statements_part (scope_of parser.old) depth) parser.old parser.new (held result) }
     ensures stays { (why : ParseReason) → parser.old.fault ≡ Some why → at.new ≡ at.old }
     ensures line { (block : Block) (outer : List Level) → is_settled block ≡ true →
-        Tells (level_at block parser.old depth ∷ outer) parser.old parser.new parser.old.rest.now at.new }
+        TellsLine (level_at block parser.old depth ∷ outer) parser.old parser.new parser.old.rest.now at.new }
     ensures ended { parser.new.fault ≡ None → is_end (next parser.new) ≡ true }
 {
     let mut list = Vec::new(parser.alloc);
@@ -412,9 +412,9 @@ fn statements(parser: &mut Parser<'_>, at: &mut u32, depth: u32) -> Made
 
 /// The heading, and the line of the policy.
 fn heading(parser: &mut Parser<'_>, at: &mut u32) -> Policy
-    ensures reads { Reads heading_part parser.old parser.new result }
+    ensures reads { HasRead heading_part parser.old parser.new result }
     ensures stays { (why : ParseReason) → parser.old.fault ≡ Some why → at.new ≡ at.old }
-    ensures line { (depth : ℕ) → Tells (level_at Block.start parser.old depth ∷ []) parser.old parser.new parser.old.rest.now at.new }
+    ensures line { (depth : ℕ) → TellsLine (level_at Block.start parser.old depth ∷ []) parser.old parser.new parser.old.rest.now at.new }
 {
     begin_line(parser, at);
     heading_line(parser);
@@ -427,8 +427,8 @@ fn parameters(parser: &mut Parser<'_>, at: &mut u32) -> Made
     ensures reads { parser.old.in_parameter ≡ false → ReadsParameters parser.old parser.new (held result) }
     ensures stays { parser.old.in_parameter ≡ false → (why : ParseReason) → parser.old.fault ≡ Some why → at.new ≡ at.old }
     ensures line { (block : Block) (depth : ℕ) → lists block ≡ true → parser.old.in_parameter ≡ false
-        → Tells (level_at block parser.old depth ∷ []) parser.old parser.new parser.old.rest.now at.new }
-    ensures ended { parser.new.fault ≡ None → begins (Piece.Word Word.Param) (Some parser.new.rest.now) ≡ false }
+        → TellsLine (level_at block parser.old depth ∷ []) parser.old parser.new parser.old.rest.now at.new }
+    ensures ended { parser.new.fault ≡ None → piece_begins (Piece.Word Word.Param) (Some parser.new.rest.now) ≡ false }
 {
     let mut list = Vec::new(parser.alloc);
     while parser.is(Piece::Word(Word::Param)) {
@@ -449,7 +449,7 @@ pub(crate) fn program(parser: &mut Parser<'_>, at: &mut u32) -> (Policy, Made)
     ensures ends { parser.new.fault ≡ None → is_all_read parser.new.rest.now ≡ true }
     ensures line { parser.old.in_parameter ≡ false → parser.old.parameters.items ≡ [] →
         parser.old.loops.items ≡ [] → IsEnded parser.old.rest.now
-        → Tells (begin parser.old.names.now ∷ []) parser.old parser.new parser.old.rest.now at.new }
+        → TellsLine (begin parser.old.names.now ∷ []) parser.old parser.new parser.old.rest.now at.new }
 {
     let policy = heading(parser, at);
     let heads = parameters(parser, at);

@@ -5,10 +5,10 @@
 
 ghost use Rattle.std.specs.Prelude.{ℕ, ◌≡◌, ◌+◌, IfSome, None, Some, false, slice_get, true};
 ghost use Rattle.spmd_text.specs.Labels.{name_fits};
-ghost use Rattle.spmd_text.specs.parts.Parts.{IsRight, Keeps, Reads, arguments_part, form_of, group_part, index_part, label_part, labels_part, optional_part, request_part, root_part, value_part, wild_part};
+ghost use Rattle.spmd_text.specs.parts.Parts.{HasRightRoot, Keeps, HasRead, arguments_part, syntax_form, group_part, index_part, label_part, labels_part, optional_part, request_part, root_part, value_part, wild_part};
 ghost use Rattle.spmd_text.specs.parts.Reading.{Goes};
-ghost use Rattle.spmd_text.specs.Spelling.{begins, is_rooted};
-ghost use Rattle.spmd_text.specs.parts.Statements.{IsMore, Makes, begun_part, held, is_call, scope_of};
+ghost use Rattle.spmd_text.specs.Spelling.{piece_begins, is_rooted};
+ghost use Rattle.spmd_text.specs.parts.Statements.{IsMore, MakesOrLacksMemory, begun_part, held, is_call_word, scope_of};
 
 use crate::expressions::expression_at;
 use crate::fault::ParseReason;
@@ -31,7 +31,7 @@ fn can_be_label(names: &[Vec<u8>], name: u32, indexed: bool) -> bool
 
 /// The index of a request or handle, where brackets stand.
 fn index(parser: &mut Parser<'_>) -> Option<Expression>
-    ensures { Reads (index_part parser.old.in_parameter) parser.old parser.new result }
+    ensures { HasRead (index_part parser.old.in_parameter) parser.old parser.new result }
 {
     if !parser.take(Piece::OpenIndex) {
         return None;
@@ -54,7 +54,7 @@ fn refuse_label(parser: &mut Parser<'_>, name: u32, indexed: bool)
 
 /// A request or handle: a name, and maybe an index in brackets.
 fn label(parser: &mut Parser<'_>) -> LabelForm
-    ensures { Reads (label_part parser.old.in_parameter parser.old.names.now) parser.old parser.new result }
+    ensures { HasRead (label_part parser.old.in_parameter parser.old.names.now) parser.old parser.new result }
 {
     let name = parser.name();
     let index = index(parser);
@@ -66,7 +66,7 @@ fn label(parser: &mut Parser<'_>) -> LabelForm
 fn refuse_star(parser: &mut Parser<'_>)
     ensures goes { Goes parser.old parser.new }
     ensures sound { parser.new.fault ≡ None → parser.new ≡ parser.old }
-    ensures other { begins Piece.Star (Some parser.old.rest.now) ≡ false → parser.new ≡ parser.old }
+    ensures other { piece_begins Piece.Star (Some parser.old.rest.now) ≡ false → parser.new ≡ parser.old }
 {
     if parser.is(Piece::Star) {
         parser.fail(ParseReason::StarDestination);
@@ -75,7 +75,7 @@ fn refuse_star(parser: &mut Parser<'_>)
 
 /// A destination, which is no wildcard (MPI 4.1, section 3.2.4).
 fn destination(parser: &mut Parser<'_>) -> Expression
-    ensures { Reads (value_part parser.old.in_parameter) parser.old parser.new result }
+    ensures { HasRead (value_part parser.old.in_parameter) parser.old parser.new result }
 {
     refuse_star(parser);
     expression_at(parser)
@@ -83,7 +83,7 @@ fn destination(parser: &mut Parser<'_>) -> Expression
 
 /// A source or a tag, or `*` for a wildcard.
 fn wild(parser: &mut Parser<'_>) -> Option<Expression>
-    ensures { Reads (wild_part parser.old.in_parameter) parser.old parser.new result }
+    ensures { HasRead (wild_part parser.old.in_parameter) parser.old parser.new result }
 {
     if parser.take(Piece::Star) {
         return None;
@@ -93,7 +93,7 @@ fn wild(parser: &mut Parser<'_>) -> Option<Expression>
 
 /// An expression behind a word, where the word stands.
 fn optional(parser: &mut Parser<'_>, word: Word) -> Option<Expression>
-    ensures { Reads (optional_part parser.old.in_parameter word) parser.old parser.new result }
+    ensures { HasRead (optional_part parser.old.in_parameter word) parser.old parser.new result }
 {
     if !parser.take(Piece::Word(word)) {
         return None;
@@ -103,7 +103,7 @@ fn optional(parser: &mut Parser<'_>, word: Word) -> Option<Expression>
 
 /// The request of a call that is started, with its comma.
 fn request(parser: &mut Parser<'_>, started: bool) -> Option<LabelForm>
-    ensures { Reads (request_part parser.old.in_parameter parser.old.names.now started) parser.old parser.new result }
+    ensures { HasRead (request_part parser.old.in_parameter parser.old.names.now started) parser.old parser.new result }
 {
     if !started {
         return None;
@@ -115,7 +115,7 @@ fn request(parser: &mut Parser<'_>, started: bool) -> Option<LabelForm>
 
 /// A send after its word: the request where it is started, the destination and the tag.
 fn send(parser: &mut Parser<'_>, mode: Mode, started: bool) -> Arguments
-    ensures { Reads (arguments_part parser.old.in_parameter parser.old.names.now (Form.Send mode started)) parser.old parser.new result }
+    ensures { HasRead (arguments_part parser.old.in_parameter parser.old.names.now (Form.Send mode started)) parser.old parser.new result }
 {
     let request = request(parser, started);
     let destination = destination(parser);
@@ -133,7 +133,7 @@ fn send(parser: &mut Parser<'_>, mode: Mode, started: bool) -> Arguments
 
 /// A receive after its word: the request where it is started, the source and the tag.
 fn receive(parser: &mut Parser<'_>, started: bool) -> Arguments
-    ensures { Reads (arguments_part parser.old.in_parameter parser.old.names.now (Form.Receive started)) parser.old parser.new result }
+    ensures { HasRead (arguments_part parser.old.in_parameter parser.old.names.now (Form.Receive started)) parser.old parser.new result }
 {
     let request = request(parser, started);
     let source = wild(parser);
@@ -150,7 +150,7 @@ fn receive(parser: &mut Parser<'_>, started: bool) -> Arguments
 
 /// A matched probe after its word: the handle, the source and the tag.
 fn matched_probe(parser: &mut Parser<'_>) -> Arguments
-    ensures { Reads (arguments_part parser.old.in_parameter parser.old.names.now Form.MatchedProbe) parser.old parser.new result }
+    ensures { HasRead (arguments_part parser.old.in_parameter parser.old.names.now Form.MatchedProbe) parser.old parser.new result }
 {
     let handle = label(parser);
     parser.comma();
@@ -168,7 +168,7 @@ fn matched_probe(parser: &mut Parser<'_>) -> Arguments
 
 /// A probe after its word: the source and the tag.
 fn probe(parser: &mut Parser<'_>) -> Arguments
-    ensures { Reads (arguments_part parser.old.in_parameter parser.old.names.now Form.Probe) parser.old parser.new result }
+    ensures { HasRead (arguments_part parser.old.in_parameter parser.old.names.now Form.Probe) parser.old parser.new result }
 {
     let source = wild(parser);
     parser.comma();
@@ -183,7 +183,7 @@ fn probe(parser: &mut Parser<'_>) -> Arguments
 
 /// The ranks of a collective call.
 fn group(parser: &mut Parser<'_>) -> Option<GroupForm>
-    ensures { Reads (group_part parser.old.in_parameter) parser.old parser.new result }
+    ensures { HasRead (group_part parser.old.in_parameter) parser.old parser.new result }
 {
     if !parser.take(Piece::Word(Word::Among)) {
         return None;
@@ -197,7 +197,7 @@ fn group(parser: &mut Parser<'_>) -> Option<GroupForm>
 
 /// The root of a collective call that has one.
 fn root(parser: &mut Parser<'_>, rooted: bool) -> Option<Expression>
-    ensures { Reads (root_part parser.old.in_parameter rooted) parser.old parser.new result }
+    ensures { HasRead (root_part parser.old.in_parameter rooted) parser.old parser.new result }
 {
     if !rooted {
         return None;
@@ -208,7 +208,7 @@ fn root(parser: &mut Parser<'_>, rooted: bool) -> Option<Expression>
 /// A collective call after its word: the root where it has one, and its group.
 fn collective(parser: &mut Parser<'_>, kind: Kind, rooted: bool) -> Arguments
     ensures { rooted ≡ is_rooted kind →
-        Reads (arguments_part parser.old.in_parameter parser.old.names.now (Form.Collective kind rooted))
+        HasRead (arguments_part parser.old.in_parameter parser.old.names.now (Form.Collective kind rooted))
         parser.old parser.new result }
 {
     let root = root(parser, rooted);
@@ -224,7 +224,7 @@ fn collective(parser: &mut Parser<'_>, kind: Kind, rooted: bool) -> Arguments
 
 /// A receive on a handle after its word: the request where it is started, and the handle.
 fn matched_receive(parser: &mut Parser<'_>, started: bool) -> Arguments
-    ensures { Reads (arguments_part parser.old.in_parameter parser.old.names.now (Form.MatchedReceive
+    ensures { HasRead (arguments_part parser.old.in_parameter parser.old.names.now (Form.MatchedReceive
         started)) parser.old parser.new result }
 {
     let request = request(parser, started);
@@ -234,7 +234,7 @@ fn matched_receive(parser: &mut Parser<'_>, started: bool) -> Arguments
 
 /// A joined send and receive after its word.
 fn send_receive(parser: &mut Parser<'_>) -> Arguments
-    ensures { Reads (arguments_part parser.old.in_parameter parser.old.names.now Form.SendReceive) parser.old parser.new result }
+    ensures { HasRead (arguments_part parser.old.in_parameter parser.old.names.now Form.SendReceive) parser.old parser.new result }
 {
     let destination = destination(parser);
     parser.comma();
@@ -255,7 +255,7 @@ fn send_receive(parser: &mut Parser<'_>) -> Arguments
 
 /// A wait after its word.
 fn wait(parser: &mut Parser<'_>) -> Arguments
-    ensures { Reads (arguments_part parser.old.in_parameter parser.old.names.now Form.Wait) parser.old parser.new result }
+    ensures { HasRead (arguments_part parser.old.in_parameter parser.old.names.now Form.Wait) parser.old parser.new result }
 {
     let request = label(parser);
     Arguments::Wait { request }
@@ -263,7 +263,7 @@ fn wait(parser: &mut Parser<'_>) -> Arguments
 
 /// A request, and the others of the list.
 fn more(parser: &mut Parser<'_>, form: LabelForm, others: Labels) -> Labels
-    ensures { Makes parser.old parser.new (IsMore form others result) }
+    ensures { MakesOrLacksMemory parser.old parser.new (IsMore form others result) }
 {
     match boxed(parser.alloc, others) {
         Ok(others) => Labels::More(form, others),
@@ -276,7 +276,7 @@ fn more(parser: &mut Parser<'_>, form: LabelForm, others: Labels) -> Labels
 
 /// The requests of a `waitall`, in their order, of which so many may follow the first.
 fn labels(parser: &mut Parser<'_>, most: u32) -> Labels
-    ensures { Reads (labels_part parser.old.in_parameter parser.old.names.now (most + 1)) parser.old parser.new result }
+    ensures { HasRead (labels_part parser.old.in_parameter parser.old.names.now (most + 1)) parser.old parser.new result }
 {
     let form = label(parser);
     if !parser.take(Piece::Comma) {
@@ -292,7 +292,7 @@ fn labels(parser: &mut Parser<'_>, most: u32) -> Labels
 
 /// A `waitall` after its word, up to the end of its line.
 pub(crate) fn wait_all(parser: &mut Parser<'_>, line: u32) -> Made
-    ensures { (depth : ℕ) → Reads (begun_part (scope_of parser.old) depth line Word.Waitall) parser.old parser.new (held result) }
+    ensures { (depth : ℕ) → HasRead (begun_part (scope_of parser.old) depth line Word.Waitall) parser.old parser.new (held result) }
 {
     let requests = labels(parser, 1023);
     parser.end_line();
@@ -315,8 +315,8 @@ enum Form {
 
 /// What the word begins, where that is a call.
 fn form_of(word: Word) -> Option<Form>
-    ensures form { result ≡ form_of word }
-    ensures right { IfSome result IsRight }
+    ensures form { result ≡ syntax_form word }
+    ensures right { IfSome result HasRightRoot }
 {
     match word {
         Word::Send => Some(Form::Send(Mode::Standard, false)),
@@ -348,7 +348,7 @@ fn form_of(word: Word) -> Option<Form>
 
 /// The arguments of a call of this form.
 fn arguments(parser: &mut Parser<'_>, form: Form) -> Arguments
-    ensures { IsRight form → Reads (arguments_part parser.old.in_parameter parser.old.names.now form) parser.old parser.new result }
+    ensures { HasRightRoot form → HasRead (arguments_part parser.old.in_parameter parser.old.names.now form) parser.old parser.new result }
 {
     match form {
         Form::Send(mode, started) => send(parser, mode, started),
@@ -364,8 +364,8 @@ fn arguments(parser: &mut Parser<'_>, form: Form) -> Arguments
 
 /// The call that the word begins, up to the end of its line.
 pub(crate) fn call(parser: &mut Parser<'_>, word: Word, line: u32) -> Made
-    ensures { (depth : ℕ) → is_call word ≡ true →
-        Reads (begun_part (scope_of parser.old) depth line word) parser.old parser.new (held result) }
+    ensures { (depth : ℕ) → is_call_word word ≡ true →
+        HasRead (begun_part (scope_of parser.old) depth line word) parser.old parser.new (held result) }
 {
     let Some(form) = form_of(word) else {
         return refuse(parser, ParseReason::NoStatement);

@@ -1,8 +1,8 @@
 //! A text is cut into its pieces, byte by byte.
 
 ghost use Rattle.std.specs.Prelude.{◌≡◌};
-ghost use Rattle.spmd_text.specs.parts.Tokens.{Steps, GivesPieces, seen, fault_of};
-ghost use Rattle.spmd_text.specs.Tokens.{sign_ended, line_ended, equals, single, feed, fed, is_word_byte, finished, pieces_of, pushed, opened, closed};
+ghost use Rattle.spmd_text.specs.parts.Tokens.{Steps, GivesPieces, seen, fault_of_halt};
+ghost use Rattle.spmd_text.specs.Tokens.{sign_ended, line_ended, equals, single, feed, fed, is_word_byte, text_finished, pieces_of, piece_pushed, opened, bracket_closed};
 
 use crate::fault::{ParseFault, ParseReason, TextFault};
 use crate::lexer::{Halt, Lexer, is_word_byte};
@@ -62,7 +62,7 @@ impl Lexer {
 
     /// A bracket that opens: up to its end no line ends.
     fn bracket(&mut self, piece: Piece) -> Result<(), Halt>
-        ensures { Steps result (Ok (pushed piece (opened (seen self.old)))) (seen self.new) }
+        ensures { Steps result (Ok (piece_pushed piece (opened (seen self.old)))) (seen self.new) }
     {
         self.brackets = self.brackets.saturating_add(1);
         self.push(piece)
@@ -70,7 +70,7 @@ impl Lexer {
 
     /// A bracket that closes. One that closes nothing is left to the grammar.
     fn unbracket(&mut self, piece: Piece) -> Result<(), Halt>
-        ensures { Steps result (Ok (pushed piece (closed (seen self.old)))) (seen self.new) }
+        ensures { Steps result (Ok (piece_pushed piece (bracket_closed (seen self.old)))) (seen self.new) }
     {
         self.brackets = self.brackets.saturating_sub(1);
         self.push(piece)
@@ -150,7 +150,7 @@ impl Lexer {
     /// Ends the last line, and the text.
     #[tactic(auto, unfolding(crate::specs::Tokens::finished))]
     fn finish(&mut self, alloc: Global) -> Result<(), Halt>
-        ensures { Steps result (finished (seen self.old)) (seen self.new) }
+        ensures { Steps result (text_finished (seen self.old)) (seen self.new) }
     {
         self.end_word(alloc)?;
         self.end_sign()?;
@@ -164,7 +164,7 @@ impl Lexer {
 
 /// The fault of this line.
 fn fault_of(halt: Halt, line: u32) -> TextFault
-    ensures { result ≡ fault_of halt line }
+    ensures { result ≡ fault_of_halt halt line }
 {
     match halt {
         Halt::Memory => TextFault::Memory,

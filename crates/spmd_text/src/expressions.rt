@@ -2,7 +2,7 @@
 //!
 //! What is wrong is noted, and then no piece is read any more: so the parts end one after another.
 
-ghost use Rattle.spmd_text.specs.parts.Parts.{Reads, condition_part, value_part};
+ghost use Rattle.spmd_text.specs.parts.Parts.{HasRead, condition_part, value_part};
 ghost use Rattle.std.specs.Prelude.{◌≡◌, ◌≤◌, ℕ, true, false, List, Some, None, Ok, IfOk};
 ghost use Rattle.spmd_tree.specs.declared.tree.Expression.{Expression};
 ghost use Rattle.spmd_tree.specs.declared.tree.Expression.TheVariants as form;
@@ -10,9 +10,9 @@ ghost use Rattle.spmd_text.specs.declared.expressions.Beginning.TheVariants as b
 ghost use Rattle.spmd_text.specs.declared.piece.Token.{Token};
 ghost use Rattle.spmd_text.specs.parts.Found.{PutAround, PutChoice, PutTogether, SoFar, WasBegun, WasRead};
 ghost use Rattle.spmd_text.specs.parts.Growing.{beginning_of, begun, first_close, inside, enclosed, ends_prefix, is_operand, Growing, MayBegin};
-ghost use Rattle.spmd_text.specs.parts.Joints.{joined, may_join, stops, Place};
-ghost use Rattle.spmd_text.specs.Limits.{IsWithin};
-ghost use Rattle.spmd_text.specs.parts.Reading.{next, noted, Ahead, Alike, Finds, Goes, MayStand, Stands};
+ghost use Rattle.spmd_text.specs.parts.Joints.{joined_parts, may_join, stops, Place};
+ghost use Rattle.spmd_text.specs.Limits.{IsTreeWithin};
+ghost use Rattle.spmd_text.specs.parts.Reading.{next, first_noted, Ahead, Alike, Finds, Goes, MayStandAmongJoints, StandsBefore};
 ghost use Rattle.spmd_text.specs.Spelling.{after_condition, after_value, is_condition};
 
 use crate::fault::ParseReason;
@@ -97,7 +97,7 @@ fn row_of(beginning: Beginning) -> Row
 
 /// Something is wrong: what is given in place of an expression is never used.
 fn fail(parser: &mut Parser<'_>, reason: ParseReason) -> Expression
-    ensures { parser.new ≡ record parser.old { fault = noted parser.old.fault reason } }
+    ensures { parser.new ≡ record parser.old { fault = first_noted parser.old.fault reason } }
 {
     parser.fail(reason);
     Expression::Null
@@ -106,7 +106,7 @@ fn fail(parser: &mut Parser<'_>, reason: ParseReason) -> Expression
 /// What was put together, where memory lasted.
 fn keep_made(parser: &mut Parser<'_>, made: Result<Expression, AllocError>) -> Expression
     ensures goes { Goes parser.old parser.new }
-    ensures kept { (e : Expression) (rest : List Token) → Stands parser.old rest →
+    ensures kept { (e : Expression) (rest : List Token) → StandsBefore parser.old rest →
         IfOk made (λ x. Alike x e) → Finds parser.new rest (Alike result e) }
     ensures sound { parser.new.fault ≡ None → (made ≡ Ok result) × (parser.new ≡ parser.old) }
 {
@@ -154,9 +154,9 @@ fn put_joint(
     right: Expression,
 ) -> Expression
     ensures goes { Goes parser.old parser.new }
-    ensures joined { (a b : Expression) (p q : Place) (rest : List Token) → Stands parser.old rest →
+    ensures joined { (a b : Expression) (p q : Place) (rest : List Token) → StandsBefore parser.old rest →
         Alike left a → Alike right b → may_join joint a b ≡ true →
-        Finds parser.new rest (Alike result (joined joint p a q b)) }
+        Finds parser.new rest (Alike result (joined_parts joint p a q b)) }
     ensures sound { parser.new.fault ≡ None → PutTogether parser.old parser.new joint left right result }
 {
     want(parser, &right, joins_conditions(joint));
@@ -176,8 +176,8 @@ fn unclosed(parser: &Parser<'_>, inner: &Expression) -> ParseReason {
 /// Notes what is wrong with the part behind the prefix, or behind what ends it.
 fn end_prefix(parser: &mut Parser<'_>, prefix: Prefix, inner: &Expression)
     ensures goes { Goes parser.old parser.new }
-    ensures ended { (a : Expression) (here rest : List Token) → Stands parser.old here → Alike inner.now a →
-        ends_prefix prefix a here rest → Stands parser.new rest }
+    ensures ended { (a : Expression) (here rest : List Token) → StandsBefore parser.old here → Alike inner.now a →
+        ends_prefix prefix a here rest → StandsBefore parser.new rest }
     ensures sound { parser.new.fault ≡ None → ends_prefix prefix inner.now parser.old.rest.now parser.new.rest.now }
 {
     match prefix {
@@ -193,7 +193,7 @@ fn end_prefix(parser: &mut Parser<'_>, prefix: Prefix, inner: &Expression)
 /// A part with what stands before it, or around it.
 fn put_prefix(parser: &mut Parser<'_>, prefix: Prefix, inner: Expression) -> Expression
     ensures goes { Goes parser.old parser.new }
-    ensures prefixed { (a : Expression) (p : Place) (here rest : List Token) → Stands parser.old here →
+    ensures prefixed { (a : Expression) (p : Place) (here rest : List Token) → StandsBefore parser.old here →
         Alike inner a → ends_prefix prefix a here rest →
         Finds parser.new rest (Alike result (enclosed prefix p a)) }
     ensures sound { parser.new.fault ≡ None → PutAround parser.old parser.new prefix inner result }
@@ -211,7 +211,7 @@ fn chosen(
     no: Expression,
 ) -> Expression
     ensures goes { Goes parser.old parser.new }
-    ensures chosen { (c a b : Expression) (p q s : Place) (rest : List Token) → Stands parser.old rest →
+    ensures chosen { (c a b : Expression) (p q s : Place) (rest : List Token) → StandsBefore parser.old rest →
         Alike condition c → Alike yes a → Alike no b → is_condition a ≡ false → is_condition b ≡ false →
         Finds parser.new rest (Alike result (form.Choice' p c q a s b)) }
     ensures sound { parser.new.fault ≡ None → PutChoice parser.old parser.new condition yes no result }
@@ -226,7 +226,7 @@ fn chosen(
 fn leaf(parser: &mut Parser<'_>) -> Expression
     ensures goes { Goes parser.old parser.new }
     ensures leaf { (depth : ℕ) (a : Expression) (rest : List Token) → Ahead parser.old depth a rest →
-        is_operand a ≡ true → begun a ≡ beginning.Leaf → Stands parser.new rest × Alike result a }
+        is_operand a ≡ true → begun a ≡ beginning.Leaf → StandsBefore parser.new rest × Alike result a }
     ensures sound { (least depth : ℕ) → parser.new.fault ≡ None → WasBegun parser.old parser.new beginning.Leaf least depth result }
 {
     if parser.in_parameter && parser.is(Piece::Word(Word::Rank)) {
@@ -341,7 +341,7 @@ fn joins(
 fn expression(parser: &mut Parser<'_>, least: u32, depth: u32) -> Expression
     ensures goes { Goes parser.old parser.new }
     ensures complete { (e : Expression) (rest : List Token) → Ahead parser.old depth e rest →
-        MayStand least e rest → Finds parser.new rest (Alike result e) }
+        MayStandAmongJoints least e rest → Finds parser.new rest (Alike result e) }
     ensures sound { parser.new.fault ≡ None → least ≤ 6 →
         WasRead parser.old.rest.now parser.old.in_parameter parser.new least depth result }
 {
@@ -352,7 +352,7 @@ fn expression(parser: &mut Parser<'_>, least: u32, depth: u32) -> Expression
 
 /// An expression: a number, or `null`.
 pub(crate) fn expression_at(parser: &mut Parser<'_>) -> Expression
-    ensures { Reads (value_part parser.old.in_parameter) parser.old parser.new result }
+    ensures { HasRead (value_part parser.old.in_parameter) parser.old parser.new result }
 {
     let read = expression(parser, NUMBER, 32);
     want(parser, &read, false);
@@ -361,7 +361,7 @@ pub(crate) fn expression_at(parser: &mut Parser<'_>) -> Expression
 
 /// A condition.
 pub(crate) fn condition_at(parser: &mut Parser<'_>) -> Expression
-    ensures { Reads (condition_part parser.old.in_parameter) parser.old parser.new result }
+    ensures { HasRead (condition_part parser.old.in_parameter) parser.old parser.new result }
 {
     let read = expression(parser, ANY, 32);
     want(parser, &read, true);

@@ -5,9 +5,9 @@ ghost use Rattle.spmd_tree.specs.declared.tree.Expression.{Expression};
 ghost use Rattle.spmd_tree.specs.declared.tree.Expression.TheVariants as form;
 ghost use Rattle.spmd_text.specs.declared.joints.Row.{Row};
 ghost use Rattle.spmd_text.specs.parts.Found.{IsLonger};
-ghost use Rattle.spmd_text.specs.parts.Growing.{enclosed, leaf_of, IsRow};
-ghost use Rattle.spmd_text.specs.parts.Joints.{binding_of, goes_on, is_lone, joined, joint_ahead, joint_of, joins_conditions, may_join, Place};
-ghost use Rattle.spmd_text.specs.Limits.{parts};
+ghost use Rattle.spmd_text.specs.parts.Growing.{enclosed, leaf_of, IsJointRow};
+ghost use Rattle.spmd_text.specs.parts.Joints.{binding_of, goes_on, is_lone, joined_parts, joint_ahead, joint_of, joins_conditions, may_join, Place};
+ghost use Rattle.spmd_text.specs.Limits.{parts_in_row};
 
 use crate::fault::ParseReason;
 use crate::piece::{Piece, Word};
@@ -139,10 +139,10 @@ pub(crate) fn joint_ahead(piece: Piece, row: u32, least: u32) -> Option<Joint>
 
 /// The row with one joint more: 256 parts at most.
 pub(crate) fn longer(row: Row, joint: Joint) -> Result<Row, ParseReason>
-    ensures complete { (a b : Expression) (p q : Place) → IsRow row a → may_join joint a b ≡ true →
-        parts (joined joint p a q b) ≤ 256 → (next : Row) × (result ≡ Ok next) ×
-        IsRow next (joined joint p a q b) }
-    ensures sound { (next : Row) (a b : Expression) (p q : Place) → result ≡ Ok next → IsRow row a → IsLonger row next joint p a q b }
+    ensures complete { (a b : Expression) (p q : Place) → IsJointRow row a → may_join joint a b ≡ true →
+        parts_in_row (joined_parts joint p a q b) ≤ 256 → (next : Row) × (result ≡ Ok next) ×
+        IsJointRow next (joined_parts joint p a q b) }
+    ensures sound { (next : Row) (a b : Expression) (p q : Place) → result ≡ Ok next → IsJointRow row a → IsLonger row next joint p a q b }
 {
     let binding = binding_of(joint);
     let lone = is_lone(joint);
@@ -186,7 +186,7 @@ pub(crate) fn pair(
     a: Expression,
     b: Expression,
 ) -> Result<Expression, AllocError>
-    ensures { IfOk result (λ made. (p : Place) × (q : Place) × (made ≡ joined joint p a q b)) }
+    ensures { IfOk result (λ made. (p : Place) × (q : Place) × (made ≡ joined_parts joint p a q b)) }
 {
     let (a, b) = two(alloc, a, b)?;
     Ok(match joint {

@@ -1,8 +1,8 @@
 //! Statements in memory of their own, where memory lasts.
 
 ghost use Rattle.std.specs.Prelude.{◌≡◌, IfOk};
-ghost use Rattle.spmd_text.specs.parts.Reading.{noted};
-ghost use Rattle.spmd_text.specs.parts.Statements.{Makes, held};
+ghost use Rattle.spmd_text.specs.parts.Reading.{first_noted};
+ghost use Rattle.spmd_text.specs.parts.Statements.{MakesOrLacksMemory, held};
 
 use crate::fault::ParseReason;
 use crate::parser::Parser;
@@ -22,7 +22,7 @@ pub(crate) fn boxed<T: Drop>(alloc: Global, value: T) -> Result<Box<T>, AllocErr
 
 /// What has no meaning here.
 pub(crate) fn refuse(parser: &mut Parser<'_>, reason: ParseReason) -> Made
-    ensures { parser.new ≡ record parser.old { fault = noted parser.old.fault reason } }
+    ensures { parser.new ≡ record parser.old { fault = first_noted parser.old.fault reason } }
 {
     parser.fail(reason);
     None
@@ -30,7 +30,7 @@ pub(crate) fn refuse(parser: &mut Parser<'_>, reason: ParseReason) -> Made
 
 /// The statement in memory of its own.
 pub(crate) fn keep(parser: &mut Parser<'_>, statement: Statement) -> Made
-    ensures { Makes parser.old parser.new (held result ≡ statement) }
+    ensures { MakesOrLacksMemory parser.old parser.new (held result ≡ statement) }
 {
     match boxed(parser.alloc, statement) {
         Err(AllocError) => refuse(parser, ParseReason::Memory),

@@ -1,11 +1,11 @@
 //! How requests and handles are named, so that a name with its index has a spelling of its own.
 
 ghost use Rattle.std.specs.Prelude.{◌≡◌};
-ghost use Rattle.spmd_text.specs.Labels.{is_digit, are_digits, are_letters, is_index, ends_in_index, is_label};
+ghost use Rattle.spmd_text.specs.Labels.{is_digit_byte, are_digits, are_letters, is_index, ends_in_index, is_label};
 
 /// Whether the byte is 0 to 9.
 fn is_digit(byte: u8) -> bool
-    ensures { result ≡ is_digit byte }
+    ensures { result ≡ is_digit_byte byte }
 {
     byte.is_ascii_digit()
 }

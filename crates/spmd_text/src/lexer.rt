@@ -2,7 +2,7 @@
 
 ghost use Rattle.std.specs.Prelude.{◌≡◌, ◌<◌, map};
 ghost use Rattle.spmd_text.specs.parts.Tokens.{Steps, GivesNumber, GivesPlace, seen};
-ghost use Rattle.spmd_text.specs.Tokens.{wants_more, number_from, place_from, placed, name_ended, word_ended, named_new, is_word_byte, pushed, worded};
+ghost use Rattle.spmd_text.specs.Tokens.{wants_more, number_from, place_from, placed, name_ended, word_ended, named_new, is_word_byte, piece_pushed, worded};
 
 use crate::fault::ParseReason;
 use crate::piece::{Piece, Token};
@@ -115,7 +115,7 @@ pub(crate) fn is_word_byte(byte: u8) -> bool
 impl Lexer {
     /// Adds a piece, on the line that is going on.
     pub(crate) fn push(&mut self, piece: Piece) -> Result<(), Halt>
-        ensures { Steps result (Ok (pushed piece (seen self.old))) (seen self.new) }
+        ensures { Steps result (Ok (piece_pushed piece (seen self.old))) (seen self.new) }
     {
         let line = self.line;
         self.tokens.push(Token { line, piece })?;

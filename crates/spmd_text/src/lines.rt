@@ -1,11 +1,11 @@
 //! Lines that are statements of their own, and the heading of a text.
 
 ghost use Rattle.std.specs.Prelude.{◌≡◌, ◌≤◌, IfSome, length, ℕ, pos, None, Some, true, false};
-ghost use Rattle.spmd_text.specs.parts.Parts.{Keeps, Reads, value_part};
-ghost use Rattle.spmd_text.specs.parts.Programs.{Adds, ReadsParameter, otherwise_part};
+ghost use Rattle.spmd_text.specs.parts.Parts.{Keeps, HasRead, value_part};
+ghost use Rattle.spmd_text.specs.parts.Programs.{AddsParameter, ReadsParameter, otherwise_part};
 ghost use Rattle.spmd_text.specs.parts.Reading.{Goes};
 ghost use Rattle.spmd_text.specs.parts.Statements.{begun_part, gap_part, held, heading_line_part, is_simple, policy_line_part, policy_of, policy_part, scope_of, span_part, step_part, variable_part};
-ghost use Rattle.spmd_text.specs.Statements.{IsStep, is_one_of, may_give};
+ghost use Rattle.spmd_text.specs.Statements.{IsLoopStep, is_one_of, may_give};
 
 use crate::calls::{call, wait_all};
 use crate::expressions::expression_at;
@@ -40,7 +40,7 @@ fn refuse_fixed(parser: &mut Parser<'_>, name: u32)
 /// The variable of a `let` or a loop, and its `=`. It is neither a parameter nor the variable of an
 /// open loop.
 pub(crate) fn variable(parser: &mut Parser<'_>) -> u32
-    ensures { Reads (variable_part (scope_of parser.old)) parser.old parser.new result }
+    ensures { HasRead (variable_part (scope_of parser.old)) parser.old parser.new result }
 {
     let name = parser.name();
     refuse_fixed(parser, name);
@@ -50,7 +50,7 @@ pub(crate) fn variable(parser: &mut Parser<'_>) -> u32
 
 /// A `let` after its word, up to the end of its line.
 fn assign(parser: &mut Parser<'_>, line: u32) -> Made
-    ensures { (depth : ℕ) → Reads (begun_part (scope_of parser.old) depth line Word.Let) parser.old parser.new (held result) }
+    ensures { (depth : ℕ) → HasRead (begun_part (scope_of parser.old) depth line Word.Let) parser.old parser.new (held result) }
 {
     let name = variable(parser);
     let value = expression_at(parser);
@@ -60,7 +60,7 @@ fn assign(parser: &mut Parser<'_>, line: u32) -> Made
 
 /// An `error` after its word, up to the end of its line.
 fn unreached(parser: &mut Parser<'_>, line: u32) -> Made
-    ensures { (depth : ℕ) → Reads (begun_part (scope_of parser.old) depth line Word.Error) parser.old parser.new (held result) }
+    ensures { (depth : ℕ) → HasRead (begun_part (scope_of parser.old) depth line Word.Error) parser.old parser.new (held result) }
 {
     parser.end_line();
     keep(parser, Statement::Unreached { line })
@@ -69,7 +69,7 @@ fn unreached(parser: &mut Parser<'_>, line: u32) -> Made
 /// A statement of one line, after its first word.
 pub(crate) fn simple(parser: &mut Parser<'_>, word: Word, line: u32) -> Made
     ensures { (depth : ℕ) → is_simple word ≡ true →
-        Reads (begun_part (scope_of parser.old) depth line word) parser.old parser.new (held result) }
+        HasRead (begun_part (scope_of parser.old) depth line word) parser.old parser.new (held result) }
 {
     match word {
         Word::Let => assign(parser, line),
@@ -83,7 +83,7 @@ pub(crate) fn simple(parser: &mut Parser<'_>, word: Word, line: u32) -> Made
 
 /// The value of a parameter, where it has one. It is the same on all ranks, so `rank` isn't in it.
 fn otherwise(parser: &mut Parser<'_>) -> Option<Expression>
-    ensures reads { parser.old.in_parameter ≡ false → Reads otherwise_part parser.old parser.new result }
+    ensures reads { parser.old.in_parameter ≡ false → HasRead otherwise_part parser.old parser.new result }
     ensures shorter { length parser.new.rest.now ≤ length parser.old.rest.now }
 {
     if !parser.take(Piece::Equals) {
@@ -108,7 +108,7 @@ fn refuse_repeated(parser: &mut Parser<'_>, name: u32)
 
 /// Adds the name to those of parameters, where memory lasts.
 fn keep_parameter(parser: &mut Parser<'_>, name: u32)
-    ensures { Adds parser.old parser.new name }
+    ensures { AddsParameter parser.old parser.new name }
 {
     match parser.parameters.push(name) {
         Ok(()) => {}
@@ -138,8 +138,8 @@ pub(crate) fn parameter(parser: &mut Parser<'_>, line: u32) -> Made
 
 /// A step, where the piece is the number of one.
 fn step_of(piece: Piece) -> Option<u32>
-    ensures found { IfSome result (λ step. IsStep step × (piece ≡ Piece.Number (pos step))) }
-    ensures each { (step : ℕ) → IsStep step → piece ≡ Piece.Number (pos step) → result ≡ Some step }
+    ensures found { IfSome result (λ step. IsLoopStep step × (piece ≡ Piece.Number (pos step))) }
+    ensures each { (step : ℕ) → IsLoopStep step → piece ≡ Piece.Number (pos step) → result ≡ Some step }
 {
     match piece {
         Piece::Number(number) => match u32::try_from(number) {
@@ -152,7 +152,7 @@ fn step_of(piece: Piece) -> Option<u32>
 
 /// The number that is a step.
 fn step_number(parser: &mut Parser<'_>) -> u32
-    ensures { Reads step_part parser.old parser.new result }
+    ensures { HasRead step_part parser.old parser.new result }
 {
     match step_of(parser.piece()) {
         None => {
@@ -168,7 +168,7 @@ fn step_number(parser: &mut Parser<'_>) -> u32
 
 /// The step of a loop, 1 where none is written.
 fn step(parser: &mut Parser<'_>) -> u32
-    ensures { Reads gap_part parser.old parser.new result }
+    ensures { HasRead gap_part parser.old parser.new result }
 {
     if !parser.take(Piece::Word(Word::Step)) {
         return 1;
@@ -186,7 +186,7 @@ pub(crate) struct Span {
 
 /// The values of a loop, behind its variable.
 pub(crate) fn span_at(parser: &mut Parser<'_>) -> Span
-    ensures { Reads (span_part parser.old.in_parameter) parser.old parser.new result }
+    ensures { HasRead (span_part parser.old.in_parameter) parser.old parser.new result }
 {
     let first = expression_at(parser);
     parser.expect(Piece::Word(Word::To), ParseReason::NoTo);
@@ -209,7 +209,7 @@ fn policy_of(piece: Piece) -> Option<Policy>
 
 /// A policy.
 fn policy(parser: &mut Parser<'_>) -> Policy
-    ensures { Reads policy_part parser.old parser.new result }
+    ensures { HasRead policy_part parser.old parser.new result }
 {
     match policy_of(parser.piece()) {
         None => {
@@ -225,7 +225,7 @@ fn policy(parser: &mut Parser<'_>) -> Policy
 
 /// The line of the policy, where there is one.
 pub(crate) fn policy_line(parser: &mut Parser<'_>) -> Policy
-    ensures { Reads policy_line_part parser.old parser.new result }
+    ensures { HasRead policy_line_part parser.old parser.new result }
 {
     if !parser.take(Piece::Word(Word::Policy)) {
         return Policy::Any;
@@ -237,7 +237,7 @@ pub(crate) fn policy_line(parser: &mut Parser<'_>) -> Policy
 
 /// The line of the heading.
 pub(crate) fn heading_line(parser: &mut Parser<'_>)
-    ensures { Reads heading_line_part parser.old parser.new result }
+    ensures { HasRead heading_line_part parser.old parser.new result }
 {
     parser.expect(Piece::Word(Word::Spmd), ParseReason::NoHeading);
     parser.end_line();

@@ -3,10 +3,10 @@
 ghost use Rattle.std.specs.Prelude.{IsTrue, ◌≡◌, ℕ, nat_eq, List, Some, None, true, false};
 ghost use Rattle.spmd_text.specs.declared.piece.Token.{Token};
 ghost use Rattle.spmd_text.specs.declared.piece.Piece.TheVariants as piece;
-ghost use Rattle.spmd_text.specs.parts.Reading.{next, next_of, behind, noted, Goes, Stands};
-ghost use Rattle.spmd_text.specs.Spelling.{after, begins};
-ghost use Rattle.spmd_text.specs.parts.Parts.{Reads, is_plain, name_part, piece_part};
-ghost use Rattle.spmd_text.specs.Statements.{line_at};
+ghost use Rattle.spmd_text.specs.parts.Reading.{next, next_of, behind_next, first_noted, Goes, StandsBefore};
+ghost use Rattle.spmd_text.specs.Spelling.{after_piece, piece_begins};
+ghost use Rattle.spmd_text.specs.parts.Parts.{HasRead, is_plain, name_part, piece_part};
+ghost use Rattle.spmd_text.specs.Statements.{line_of_first_piece};
 ghost use Rattle.spmd_text.specs.Words.{code};
 
 use crate::codes::code;
@@ -55,7 +55,7 @@ impl Parser<'_> {
 
     /// Notes what is wrong, unless something was before.
     pub(crate) fn fail(&mut self, reason: ParseReason)
-        ensures { self.new ≡ record self.old { fault = noted self.old.fault reason } }
+        ensures { self.new ≡ record self.old { fault = first_noted self.old.fault reason } }
     {
         match self.fault {
             None => self.fault = Some(reason),
@@ -65,7 +65,7 @@ impl Parser<'_> {
 
     /// The line of the piece that is read next; 1, where none is left.
     pub(crate) fn line(&self) -> u32
-        ensures { result ≡ line_at self.now.rest.now }
+        ensures { result ≡ line_of_first_piece self.now.rest.now }
     {
         match self.rest.first() {
             Some(token) => token.line,
@@ -76,7 +76,7 @@ impl Parser<'_> {
     /// Takes a piece.
     pub(crate) fn step(&mut self)
         ensures goes { Goes self.old self.new }
-        ensures left { self.new.rest.now ≡ behind self.old.rest.now }
+        ensures left { self.new.rest.now ≡ behind_next self.old.rest.now }
         ensures fault { self.new.fault ≡ self.old.fault }
     {
         if let [_, rest @ ..] = self.rest {
@@ -96,11 +96,11 @@ impl Parser<'_> {
         ensures goes { Goes self.old self.new }
         ensures found { result ≡ nat_eq (code (next self.old)) (code piece) }
         ensures taken { (rest : List Token) → self.old.fault ≡ None →
-            after piece (Some self.old.rest.now) ≡ Some rest → (result ≡ true) × Stands self.new rest }
+            after_piece piece (Some self.old.rest.now) ≡ Some rest → (result ≡ true) × StandsBefore self.new rest }
         ensures left { result ≡ false → self.new ≡ self.old }
-        ensures passed { result ≡ true → (self.new.fault ≡ self.old.fault) × (self.new.rest.now ≡ behind self.old.rest.now) }
-        ensures reads { result ≡ true → is_plain piece ≡ true → Reads (piece_part piece) self.old self.new (tt {0}) }
-        ensures there { result ≡ true → self.old.fault ≡ None → is_plain piece ≡ true → begins piece (Some self.old.rest.now) ≡ true }
+        ensures passed { result ≡ true → (self.new.fault ≡ self.old.fault) × (self.new.rest.now ≡ behind_next self.old.rest.now) }
+        ensures reads { result ≡ true → is_plain piece ≡ true → HasRead (piece_part piece) self.old self.new (tt {0}) }
+        ensures there { result ≡ true → self.old.fault ≡ None → is_plain piece ≡ true → piece_begins piece (Some self.old.rest.now) ≡ true }
     {
         if !self.is(piece) {
             return false;
@@ -113,11 +113,11 @@ impl Parser<'_> {
     pub(crate) fn expect(&mut self, piece: Piece, reason: ParseReason)
         ensures goes { Goes self.old self.new }
         ensures taken { (rest : List Token) → self.old.fault ≡ None →
-            after piece (Some self.old.rest.now) ≡ Some rest → Stands self.new rest }
+            after_piece piece (Some self.old.rest.now) ≡ Some rest → StandsBefore self.new rest }
         ensures passed { self.new.fault ≡ None →
             (nat_eq (code (next self.old)) (code piece) ≡ true) ×
-            (self.new.rest.now ≡ behind self.old.rest.now) }
-        ensures reads { IsTrue (is_plain piece) → Reads (piece_part piece) self.old self.new result }
+            (self.new.rest.now ≡ behind_next self.old.rest.now) }
+        ensures reads { IsTrue (is_plain piece) → HasRead (piece_part piece) self.old self.new result }
     {
         if !self.take(piece) {
             self.fail(reason);
@@ -128,10 +128,10 @@ impl Parser<'_> {
     pub(crate) fn name(&mut self) -> u32
         ensures goes { Goes self.old self.new }
         ensures taken { (name : ℕ) (rest : List Token) → self.old.fault ≡ None →
-            after (piece.Name name) (Some self.old.rest.now) ≡ Some rest →
-            (result ≡ name) × Stands self.new rest }
-        ensures passed { self.new.fault ≡ None → after (piece.Name result) (Some self.old.rest.now) ≡ Some self.new.rest.now }
-        ensures reads { Reads name_part self.old self.new result }
+            after_piece (piece.Name name) (Some self.old.rest.now) ≡ Some rest →
+            (result ≡ name) × StandsBefore self.new rest }
+        ensures passed { self.new.fault ≡ None → after_piece (piece.Name result) (Some self.old.rest.now) ≡ Some self.new.rest.now }
+        ensures reads { HasRead name_part self.old self.new result }
     {
         match self.piece() {
             Piece::Name(name) => {
@@ -149,16 +149,16 @@ impl Parser<'_> {
     pub(crate) fn comma(&mut self)
         ensures goes { Goes self.old self.new }
         ensures taken { (rest : List Token) → self.old.fault ≡ None →
-            after piece.Comma (Some self.old.rest.now) ≡ Some rest → Stands self.new rest }
-        ensures passed { self.new.fault ≡ None → after piece.Comma (Some self.old.rest.now) ≡ Some self.new.rest.now }
-        ensures reads { Reads (piece_part piece.Comma) self.old self.new result }
+            after_piece piece.Comma (Some self.old.rest.now) ≡ Some rest → StandsBefore self.new rest }
+        ensures passed { self.new.fault ≡ None → after_piece piece.Comma (Some self.old.rest.now) ≡ Some self.new.rest.now }
+        ensures reads { HasRead (piece_part piece.Comma) self.old self.new result }
     {
         self.expect(Piece::Comma, ParseReason::NoComma);
     }
 
     /// Takes the end of a line.
     pub(crate) fn end_line(&mut self)
-        ensures { Reads (piece_part piece.LineEnd) self.old self.new result }
+        ensures { HasRead (piece_part piece.LineEnd) self.old self.new result }
     {
         self.expect(Piece::LineEnd, ParseReason::TooMuch);
     }

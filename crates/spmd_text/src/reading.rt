@@ -1,11 +1,11 @@
 //! A text is read whole.
 
 ghost use Rattle.std.specs.Prelude.{◌≡◌, ◌++◌, IfErr, IfOk, IfSome, None, OnOk, Some, false};
-ghost use Rattle.spmd_text.specs.FirstFaults.{IsFirstFault, IsReadable};
+ghost use Rattle.spmd_text.specs.FirstFaults.{IsFirstWrongLine, AreReadablePieces};
 ghost use Rattle.spmd_text.specs.parts.Lines.{IsEnded};
-ghost use Rattle.spmd_text.specs.Programs.{Says, parameters_of};
+ghost use Rattle.spmd_text.specs.Programs.{SaysProgram, parameters_of};
 ghost use Rattle.spmd_text.specs.parts.Statements.{held};
-ghost use Rattle.spmd_text.specs.Texts.{HasFault, IsText, grammar_fault, is_memory};
+ghost use Rattle.spmd_text.specs.Texts.{HasTextFault, IsSpmdText, grammar_fault, is_memory_reason};
 
 use crate::blocks::program;
 use crate::cutting::cut;
@@ -59,11 +59,11 @@ fn first_fault(parser: &Parser<'_>, line: u32) -> Option<ParseFault>
 /// Reads the pieces. Where a fault is told, other than want of memory, they say nothing that can be
 /// read.
 fn read(alloc: Global, found: &Pieces) -> Reading
-    ensures said { result.fault ≡ None → Says found.now.names.items found.now.tokens.items result.policy (held result.statements) }
-    ensures told { IfSome result.fault (λ fault. is_memory fault.reason ≡ false →
-        IsReadable found.now.names.items found.now.tokens.items → ⊥) }
-    ensures first { IfSome result.fault (λ fault. is_memory fault.reason ≡ false → IsEnded found.now.tokens.items
-        → IsFirstFault found.now.names.items found.now.tokens.items fault.line) }
+    ensures said { result.fault ≡ None → SaysProgram found.now.names.items found.now.tokens.items result.policy (held result.statements) }
+    ensures told { IfSome result.fault (λ fault. is_memory_reason fault.reason ≡ false →
+        AreReadablePieces found.now.names.items found.now.tokens.items → ⊥) }
+    ensures first { IfSome result.fault (λ fault. is_memory_reason fault.reason ≡ false → IsEnded found.now.tokens.items
+        → IsFirstWrongLine found.now.names.items found.now.tokens.items fault.line) }
 {
     let mut parser = Parser {
         alloc,
@@ -102,7 +102,7 @@ fn put_parameters(out: &mut Vec<u32>, statement: &Statement) -> Result<(), Alloc
 
 /// Whether the allocator refused memory.
 fn is_memory(reason: ParseReason) -> bool
-    ensures { result ≡ is_memory reason }
+    ensures { result ≡ is_memory_reason reason }
 {
     match reason {
         ParseReason::Memory => true,
@@ -125,8 +125,8 @@ fn grammar_fault(fault: ParseFault) -> TextFault
 /// text that can be read has it behind the lines before it. A statement that goes on over several
 /// lines is told with the number of the first of them.
 pub fn parse(alloc: Global, bytes: &[u8]) -> Result<Text, TextFault>
-    ensures text { IfOk result (λ text. IsText text bytes.now) }
-    ensures fault { IfErr result (λ fault. HasFault bytes.now fault) }
+    ensures text { IfOk result (λ text. IsSpmdText text bytes.now) }
+    ensures fault { IfErr result (λ fault. HasTextFault bytes.now fault) }
 {
     if bytes.len() > 65_536 {
         return Err(TextFault::TooLarge);

@@ -2,7 +2,7 @@
 
 ghost use Rattle.std.specs.Prelude.{◌≡◌};
 ghost use Rattle.std.specs.Str.{bytes_eq};
-ghost use Rattle.spmd_text.specs.Words.{word_of, block_of, branch_of, part_of, logic_of, operator_of, send_of, receive_of, probe_of, wait_of, rooted_of, collective_of};
+ghost use Rattle.spmd_text.specs.Words.{keyword_of, block_keyword, branch_of, part_keyword, logic_of, operator_of, send_of, receive_keyword, probe_of, wait_of, rooted_of, collective_of};
 
 use crate::piece::Word;
 
@@ -16,7 +16,7 @@ pub(crate) fn is(word: &[u8], text: &str) -> bool
 /// The word of the language that is spelled so.
 #[tactic(auto, unfolding(crate::specs::Words::word_of))]
 pub(crate) fn word_of(word: &[u8]) -> Option<Word>
-    ensures { result ≡ word_of word.now }
+    ensures { result ≡ keyword_of word.now }
 {
     if is(word, "spmd") {
         return Some(Word::Spmd);
@@ -39,7 +39,7 @@ pub(crate) fn word_of(word: &[u8]) -> Option<Word>
 /// A word of parameters, of `let` and of loops, or one of those below.
 #[tactic(auto, unfolding(crate::specs::Words::block_of))]
 fn block_of(word: &[u8]) -> Option<Word>
-    ensures { result ≡ block_of word.now }
+    ensures { result ≡ block_keyword word.now }
 {
     if is(word, "param") {
         return Some(Word::Param);
@@ -85,7 +85,7 @@ fn branch_of(word: &[u8]) -> Option<Word>
 /// A word that stands in calls and expressions, or one of those below.
 #[tactic(auto, unfolding(crate::specs::Words::part_of))]
 fn part_of(word: &[u8]) -> Option<Word>
-    ensures { result ≡ part_of word.now }
+    ensures { result ≡ part_keyword word.now }
 {
     if is(word, "error") {
         return Some(Word::Error);
@@ -171,7 +171,7 @@ fn send_of(word: &[u8]) -> Option<Word>
 /// A further send's word, a receive's, or one of those below.
 #[tactic(auto, unfolding(crate::specs::Words::receive_of))]
 fn receive_of(word: &[u8]) -> Option<Word>
-    ensures { result ≡ receive_of word.now }
+    ensures { result ≡ receive_keyword word.now }
 {
     if is(word, "issend") {
         return Some(Word::Issend);

@@ -6,7 +6,7 @@ use Rattle.std.specs.Global.{Vec}
 use Rattle.std.specs.List.{AllByRecursion, flat_map}
 use Rattle.steal.specs.declared.seats.OwnerSeat.{OwnerSeat}
 use Rattle.steal.specs.declared.seats.ThiefSeat.{ThiefSeat}
-use Rattle.steal.specs.parts.Rows.{rows_of, AreLast}
+use Rattle.steal.specs.parts.Rows.{thief_rows, EndInSeats}
 use Rattle.steal.specs.Seats.{pushed, popped, stolen_by, thief_count, IsThiefOf}
 use Rattle.steal.specs.Supplies.{AreThieves}
 use Rattle.steal.proofs.Moves.{count_by-append}
@@ -19,7 +19,7 @@ abbrev pub IsEven : (ℕ → Bool) → List ℕ → List ℕ → List OwnerSeat 
 IsEven p given taken owners rows left =
     count_by p given + (count_by p (flat_map popped owners) + count_by p (flat_map stolen_by rows)) ≡ (count_by p taken + count_by p left) + count_by p (flat_map pushed owners)
 
-pub even_more : (p : ℕ → Bool) (given taken : List ℕ) (owners : List OwnerSeat) (owner : OwnerSeat) {rows others : List (List ThiefSeat)} {seats : List ThiefSeat} (left cubes : List ℕ) → AreLast rows others seats
+pub even_more : (p : ℕ → Bool) (given taken : List ℕ) (owners : List OwnerSeat) (owner : OwnerSeat) {rows others : List (List ThiefSeat)} {seats : List ThiefSeat} (left cubes : List ℕ) → EndInSeats rows others seats
     → count_by p (pushed owner) ≡ count_by p ((popped owner ++ stolen_by seats) ++ cubes) → IsEven p given taken (owners ++ owner ∷ []) rows left → IsEven p given taken owners others (left ++ cubes)
 even_more p given taken owners owner {seats = seats} left cubes cut mine even =
     omega (
@@ -51,22 +51,22 @@ even_ended p given taken owners rows left none thieves even =
     )
 
 -- the last owner is taken, and each row's last seat
-module _ (all owners : List OwnerSeat) (owner : OwnerSeat) (rows others : List (Vec ThiefSeat)) (seats : List ThiefSeat) (is : all ≡ owners ++ owner ∷ []) (thieves : All (AreThieves all) (rows_of rows)) (counts : All (λ (o : OwnerSeat). thief_count o ≡ length rows) all) (cut : AreLast (rows_of rows) (rows_of others) seats) where
-  parts : AllByRecursion (AreThieves owners) (rows_of others) × AllByRecursion (IsThiefOf owner) seats × (length (rows_of others) ≡ length (rows_of rows)) × (length seats ≡ length (rows_of rows))
+module _ (all owners : List OwnerSeat) (owner : OwnerSeat) (rows others : List (Vec ThiefSeat)) (seats : List ThiefSeat) (is : all ≡ owners ++ owner ∷ []) (thieves : All (AreThieves all) (thief_rows rows)) (counts : All (λ (o : OwnerSeat). thief_count o ≡ length rows) all) (cut : EndInSeats (thief_rows rows) (thief_rows others) seats) where
+  parts : AllByRecursion (AreThieves owners) (thief_rows others) × AllByRecursion (IsThiefOf owner) seats × (length (thief_rows others) ≡ length (thief_rows rows)) × (length seats ≡ length (thief_rows rows))
   parts =
       thieves_cut owners owner cut
-      (recursion_from_All (AreThieves (owners ++ owner ∷ [])) (rows_of rows) (subst (λ (l : List OwnerSeat). All (AreThieves l) (rows_of rows)) is thieves))
+      (recursion_from_All (AreThieves (owners ++ owner ∷ [])) (thief_rows rows) (subst (λ (l : List OwnerSeat). All (AreThieves l) (thief_rows rows)) is thieves))
 
   tallies : AllByRecursion (λ (o : OwnerSeat). thief_count o ≡ length rows) owners × (thief_count owner ≡ length rows)
   tallies =
       let P : OwnerSeat → Type 0 = λ o. thief_count o ≡ length rows in
       AllByRecursion-front P owners owner (recursion_from_All P (owners ++ owner ∷ []) (subst (λ (l : List OwnerSeat). All P l) is counts))
 
-  size : (vecs : List (Vec ThiefSeat)) → length (rows_of vecs) ≡ length vecs
+  size : (vecs : List (Vec ThiefSeat)) → length (thief_rows vecs) ≡ length vecs
   size vecs = length-map vecs (λ (r : Vec ThiefSeat). r.items)
 
-  pub others_thieves : All (AreThieves owners) (rows_of others)
-  others_thieves = All-from_recursion (AreThieves owners) (rows_of others) parts.0
+  pub others_thieves : All (AreThieves owners) (thief_rows others)
+  others_thieves = All-from_recursion (AreThieves owners) (thief_rows others) parts.0
 
   pub others_counts : All (λ (o : OwnerSeat). thief_count o ≡ length others) owners
   others_counts =

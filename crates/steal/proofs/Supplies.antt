@@ -8,7 +8,7 @@ use Rattle.steal.specs.declared.seats.ThiefSeat.{ThiefSeat}
 use Rattle.steal.specs.declared.supply.Supply.{Supply}
 use Rattle.steal.specs.parts.Rows.{IsFreshOwner}
 use Rattle.steal.specs.Seats.{pushed, popped, stolen_by, IsThiefOf, IsSameOwner, IsSameThief}
-use Rattle.steal.specs.Supplies.{given, given_by, taken, taken_by, owners_of, AreSupplies, IsSameSupply, SuppliesStay}
+use Rattle.steal.specs.Supplies.{given, given_by, taken, taken_by_supplies, owners_of, AreSupplies, IsSameSupply, SuppliesStay}
 use Rattle.steal.proofs.Moves.{count_by-append}
 use Rattle.steal.proofs.Places.{All-from_map, AllZip-map, AllZip-refl, AllZip-set, AllZip-trans}
 
@@ -32,7 +32,7 @@ pub given_by-owners : (supplies : List Supply) → given_by supplies ≡ flat_ma
 given_by-owners [] = refl
 given_by-owners (s ∷ supplies) = ap (λ (l : List ℕ). given s ++ l) (given_by-owners supplies)
 
-pub count_taken_by : (p : ℕ → Bool) (supplies : List Supply) → count_by p (taken_by supplies) ≡ count_by p (flat_map popped (owners_of supplies)) + count_by p (flat_map stolen_by (map (λ (s : Supply). s.thieves.items) supplies))
+pub count_taken_by : (p : ℕ → Bool) (supplies : List Supply) → count_by p (taken_by_supplies supplies) ≡ count_by p (flat_map popped (owners_of supplies)) + count_by p (flat_map stolen_by (map (λ (s : Supply). s.thieves.items) supplies))
 count_taken_by p [] = refl
 count_taken_by p (s ∷ supplies) =
     let rest = count_taken_by p supplies in
@@ -40,7 +40,7 @@ count_taken_by p (s ∷ supplies) =
     omega (
       arith,
       rest,
-      count_by-append p (taken s) (taken_by supplies),
+      count_by-append p (taken s) (taken_by_supplies supplies),
       count_by-append p (popped s.own) (stolen_by s.thieves.items),
       count_by-append p (popped s.own) (flat_map popped (owners_of supplies)),
       count_by-append p (stolen_by s.thieves.items) stolen,

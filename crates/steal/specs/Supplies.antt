@@ -17,8 +17,8 @@ taken s = popped s.own ++ stolen_by s.thieves.items
 abbrev pub given_by : List Supply → List ℕ
 given_by supplies = flat_map given supplies
 
-abbrev pub taken_by : List Supply → List ℕ
-taken_by supplies = flat_map taken supplies
+abbrev pub taken_by_supplies : List Supply → List ℕ
+taken_by_supplies supplies = flat_map taken supplies
 
 abbrev pub owners_of : List Supply → List OwnerSeat
 owners_of supplies = map (λ (s : Supply). s.own) supplies

@@ -3,9 +3,9 @@
 ghost use Rattle.std.specs.Prelude.{◌≡◌, ◌<◌, ◌≤◌, ◌++◌, ◌∷◌, [], ℕ, All, IfOk, length, map, vec_len, MatchOption, MatchResult};
 ghost use Rattle.std.specs.List.{AllZip, flat_map};
 ghost use Rattle.steal.specs.Hands.{occurrences};
-ghost use Rattle.steal.specs.parts.Rows.{rows_of, AreFreshThieves, AreLast, IsFreshOwner};
+ghost use Rattle.steal.specs.parts.Rows.{thief_rows, AreFreshThieves, EndInSeats, IsFreshOwner};
 ghost use Rattle.steal.specs.Seats.{popped, pushed, stolen, stolen_by, thief_count, IsSameThief, IsThiefOf};
-ghost use Rattle.steal.specs.Supplies.{given, given_by, taken, taken_by, owners_of, AreSupplies, AreThieves, HasOneMore, IsSameSupply, SuppliesStay};
+ghost use Rattle.steal.specs.Supplies.{given, given_by, taken, taken_by_supplies, owners_of, AreSupplies, AreThieves, HasOneMore, IsSameSupply, SuppliesStay};
 
 use crate::deque::{CubeDeque, Stolen};
 use crate::seats::{OwnerSeat, ThiefSeat};
@@ -99,7 +99,7 @@ fn deques(alloc: Global, count: u32) -> Result<(Vec<OwnerSeat>, Vec<Vec<ThiefSea
     requires { count ≤ 64 }
     ensures count { IfOk result (λ r. vec_len r.0 ≡ count) }
     ensures owners { IfOk result (λ r. All (IsFreshOwner count) r.0.items) }
-    ensures rows { IfOk result (λ r. AllZip (AreFreshThieves count) r.0.items (rows_of r.1.items)) }
+    ensures rows { IfOk result (λ r. AllZip (AreFreshThieves count) r.0.items (thief_rows r.1.items)) }
 {
     let mut owners = Vec::new(alloc);
     let mut rows = Vec::new(alloc);
@@ -119,7 +119,7 @@ fn dealt(
 ) -> Result<Vec<Supply>, AllocError>
     requires few { vec_len owners ≤ 64 }
     requires owners { All (IsFreshOwner (vec_len owners)) owners.items }
-    requires rows { AllZip (AreFreshThieves (vec_len owners)) owners.items (rows_of rows.items) }
+    requires rows { AllZip (AreFreshThieves (vec_len owners)) owners.items (thief_rows rows.items) }
     ensures owners { IfOk result (λ supplies. owners_of supplies.items ≡ owners.items) }
     ensures supplies { IfOk result (λ supplies. AreSupplies supplies.items) }
     ensures fresh { IfOk result (λ supplies. All (λ supply. (given supply ≡ []) × (taken supply ≡ [])) supplies.items) }
@@ -144,7 +144,7 @@ fn last_of_each(
     rows: Vec<Vec<ThiefSeat>>,
 ) -> Result<(Vec<Vec<ThiefSeat>>, Vec<ThiefSeat>), AllocError>
     requires { All (λ row. 0 < vec_len row) rows.items }
-    ensures { IfOk result (λ r. AreLast (rows_of rows.items) (rows_of r.0.items) r.1.items) }
+    ensures { IfOk result (λ r. EndInSeats (thief_rows rows.items) (thief_rows r.0.items) r.1.items) }
 {
     let mut left = Vec::new(alloc);
     let mut seats = Vec::new(alloc);
@@ -165,7 +165,7 @@ pub fn settle_all(alloc: Global, supplies: Vec<Supply>) -> Result<Vec<u32>, Allo
     requires { AreSupplies supplies.items }
     ensures { IfOk result (λ left. (cube : ℕ) →
         occurrences cube (given_by supplies.items) ≡
-        occurrences cube (taken_by supplies.items ++ left.items)) }
+        occurrences cube (taken_by_supplies supplies.items ++ left.items)) }
 {
     let (owners, rows) = parted(alloc, supplies)?;
     left_of_all(alloc, owners, rows)
@@ -177,7 +177,7 @@ fn parted(
     supplies: Vec<Supply>,
 ) -> Result<(Vec<OwnerSeat>, Vec<Vec<ThiefSeat>>), AllocError>
     ensures owners { IfOk result (λ r. r.0.items ≡ owners_of supplies.items) }
-    ensures rows { IfOk result (λ r. rows_of r.1.items ≡ map (λ supply. supply.thieves.items) supplies.items) }
+    ensures rows { IfOk result (λ r. thief_rows r.1.items ≡ map (λ supply. supply.thieves.items) supplies.items) }
 {
     let mut owners = Vec::new(alloc);
     let mut rows = Vec::new(alloc);
@@ -194,11 +194,11 @@ fn left_of_all(
     mut owners: Vec<OwnerSeat>,
     mut rows: Vec<Vec<ThiefSeat>>,
 ) -> Result<Vec<u32>, AllocError>
-    requires rows { All (AreThieves owners.items) (rows_of rows.items) }
+    requires rows { All (AreThieves owners.items) (thief_rows rows.items) }
     requires counts { All (λ owner. thief_count owner ≡ vec_len rows) owners.items }
     ensures { IfOk result (λ left. (cube : ℕ) →
         occurrences cube (flat_map pushed owners.items) ≡
-        occurrences cube ((flat_map popped owners.items ++ flat_map stolen_by (rows_of rows.items)) ++
+        occurrences cube ((flat_map popped owners.items ++ flat_map stolen_by (thief_rows rows.items)) ++
         left.items)) }
 {
     let mut left = Vec::new(alloc);

@@ -5,7 +5,7 @@ use Rattle.std.proofs.lemmas.Bool.{cases_lt, false≢true}
 use Rattle.std.proofs.lemmas.List.{append-nil, append_assoc, length-append, map-append}
 use Rattle.std.proofs.lemmas.Option.{slice_get_within, slice_get_read}
 use Rattle.clauses.specs.Clauses.{Literal, Conjunction, rises, is_within}
-use Rattle.refutations.specs.Proofs.{ProofLine, is_number}
+use Rattle.refutations.specs.Proofs.{ProofLine, is_proof_number}
 use Rattle.refutations.specs.Propagation.{no_values}
 use Rattle.refutations.specs.Derivations.{clauses_before, clause_numbered, Derives}
 use Rattle.refutations.specs.Refutations.{AreDerived}
@@ -13,7 +13,7 @@ use Rattle.refutations.proofs.Covers.{derivations-follow}
 use Rattle.refutations.proofs.Numbered.{clause_numbered-line}
 use Rattle.tree_lines.specs.declared.joining.Entry.{Entry}
 use Rattle.tree_lines.specs.parts.LiteralSets.{are_sorted, IsTautology}
-use Rattle.tree_lines.specs.parts.Entries.{IsNumbered, IsEntry, GoesOn, IsAddedEntry}
+use Rattle.tree_lines.specs.parts.Entries.{HasClauseNumber, IsEntry, GoesOn, IsAddedEntry}
 use Rattle.tree_lines.proofs.LiteralLaws.{sorted_from_rises, tautology_from_order}
 use Rattle.tree_lines.specs.Joining.{HasEmptyLine, Joins, JoinedRefute}
 
@@ -62,7 +62,7 @@ pub numbered_more : (f : Conjunction) (lines more : List ProofLine) (number : �
 numbered_more f lines more number c e =
     subst (λ (cs : List (List Literal)). clause_numbered cs number ≡ Some c) (sym (before_more f lines more)) (numbered_front (clauses_before f lines) (map (λ line. line.literals) more) number c e)
 
-still_numbered : (f : Conjunction) (lines more : List ProofLine) (literals : List Literal) (number : Option ℕ) → IsNumbered (clauses_before f lines) literals number → IsNumbered (clauses_before f (lines ++ more)) literals number
+still_numbered : (f : Conjunction) (lines more : List ProofLine) (literals : List Literal) (number : Option ℕ) → HasClauseNumber (clauses_before f lines) literals number → HasClauseNumber (clauses_before f (lines ++ more)) literals number
 still_numbered f lines more literals None numbered = numbered
 still_numbered f lines more literals (Some number) numbered = (numbered_more f lines more number literals numbered.0, numbered.1)
 
@@ -153,12 +153,12 @@ joins_line f lines added number named above derived =
 -- ---- entries
 
 -- a clause's entry
-pub clause_entry : (f : Conjunction) (lines : List ProofLine) (entry : Entry) (literals : List Literal) (number : ℕ) → entry.literals.items ≡ literals → entry.number ≡ Some number → rises literals ≡ true → is_within f.variables literals ≡ true → clause_numbered (clauses_before f lines) number ≡ Some literals → IsTrue (is_number number) → IsEntry f lines entry
+pub clause_entry : (f : Conjunction) (lines : List ProofLine) (entry : Entry) (literals : List Literal) (number : ℕ) → entry.literals.items ≡ literals → entry.number ≡ Some number → rises literals ≡ true → is_within f.variables literals ≡ true → clause_numbered (clauses_before f lines) number ≡ Some literals → IsTrue (is_proof_number number) → IsEntry f lines entry
 clause_entry f lines entry literals number same found rising within named small =
     record {
       sorted = ap are_sorted same ∙ sorted_from_rises literals rising;
       within = ap (is_within f.variables) same ∙ within;
-      numbered = subst (λ (o : Option ℕ). IsNumbered (clauses_before f lines) entry.literals.items o) (sym found) (named ∙ ap Some (sym same), small);
+      numbered = subst (λ (o : Option ℕ). HasClauseNumber (clauses_before f lines) entry.literals.items o) (sym found) (named ∙ ap Some (sym same), small);
     }
 
 no_line_made : (rising numbers : Bool) → (IsTrue rising × IsTrue numbers → false ≡ true) → numbers ≡ true → rising ≡ false
@@ -174,13 +174,13 @@ tautology_entry f lines old literals copy entry numbers same none copied never a
       is_entry = record {
         sorted = ap are_sorted same ∙ sorted;
         within = ap (is_within f.variables) same ∙ within;
-        numbered = subst (λ (o : Option ℕ). IsNumbered (clauses_before f (lines ++ old)) entry.literals.items o) (sym none) (subst (λ (ls : List Literal). IsTautology ls) (sym same) tautology);
+        numbered = subst (λ (o : Option ℕ). HasClauseNumber (clauses_before f (lines ++ old)) entry.literals.items o) (sym none) (subst (λ (ls : List Literal). IsTautology ls) (sym same) tautology);
       };
       same = same;
     }
 
 -- the entry of a line that was added
-pub line_entry : (f : Conjunction) (lines old new : List ProofLine) (literals : List Literal) (entry : Entry) (line : ProofLine) (number : ℕ) → entry.literals.items ≡ literals → entry.number ≡ Some number → line.literals ≡ literals → new ≡ old ++ line ∷ [] → number ≡ length f.clauses + length lines + length old + 1 → IsTrue (is_number number) → are_sorted literals ≡ true → is_within f.variables literals ≡ true → AreDerived f (lines ++ old) → Derives f (lines ++ old) line → IsAddedEntry f lines old new literals entry
+pub line_entry : (f : Conjunction) (lines old new : List ProofLine) (literals : List Literal) (entry : Entry) (line : ProofLine) (number : ℕ) → entry.literals.items ≡ literals → entry.number ≡ Some number → line.literals ≡ literals → new ≡ old ++ line ∷ [] → number ≡ length f.clauses + length lines + length old + 1 → IsTrue (is_proof_number number) → are_sorted literals ≡ true → is_within f.variables literals ≡ true → AreDerived f (lines ++ old) → Derives f (lines ++ old) line → IsAddedEntry f lines old new literals entry
 line_entry f lines old new literals entry line number same found of_line pushed is small sorted within derived derives =
     let named = numbered_push f lines old new line number pushed is in
     record {
@@ -188,7 +188,7 @@ line_entry f lines old new literals entry line number same found of_line pushed 
       is_entry = record {
         sorted = ap are_sorted same ∙ sorted;
         within = ap (is_within f.variables) same ∙ within;
-        numbered = subst (λ (o : Option ℕ). IsNumbered (clauses_before f (lines ++ new)) entry.literals.items o) (sym found) (named ∙ ap Some (of_line ∙ sym same), small);
+        numbered = subst (λ (o : Option ℕ). HasClauseNumber (clauses_before f (lines ++ new)) entry.literals.items o) (sym found) (named ∙ ap Some (of_line ∙ sym same), small);
       };
       same = same;
     }

@@ -14,7 +14,7 @@ use Rattle.refutations.specs.Derivations.{clauses_before, clause_numbered}
 use Rattle.refutations.specs.Refutations.{AreDerived, Accepts}
 use Rattle.refutations.specs.Trees.{branch, is_refuted, Refutes}
 use Rattle.tree_lines.specs.declared.joining.Entry.{Entry}
-use Rattle.tree_lines.specs.parts.Entries.{IsNumbered, IsEntry, GoesOn, IsSplitEntry}
+use Rattle.tree_lines.specs.parts.Entries.{HasClauseNumber, IsEntry, GoesOn, IsSplitEntry}
 use Rattle.tree_lines.proofs.Paths.{empty_at_root, no_empty_tautology}
 use Rattle.tree_lines.proofs.Added.{entry_more, entry_goes_on}
 
@@ -261,14 +261,14 @@ no_empty_stack f lines added entries root none =
     omega arith
 
 -- the root's entry has a number, and it names the empty clause
-root_number : (clauses : List (List Literal)) (literals : List Literal) (found : Option ℕ) → literals ≡ [] → IsNumbered clauses literals found → found ≡ None → ⊥
+root_number : (clauses : List (List Literal)) (literals : List Literal) (found : Option ℕ) → literals ≡ [] → HasClauseNumber clauses literals found → found ≡ None → ⊥
 root_number clauses literals None none numbered e = no_empty_tautology literals none numbered
 root_number clauses literals (Some number) none numbered e = cc
 
 pub root_has_number : (f : Conjunction) (lines : List ProofLine) (root : Entry) → IsEntry f lines root → root.literals.items ≡ [] → root.number ≡ None → ⊥
 root_has_number f lines root is none e = root_number (clauses_before f lines) root.literals.items root.number none is.numbered e
 
-named_empty : (clauses : List (List Literal)) (literals : List Literal) (found : Option ℕ) (number : ℕ) → literals ≡ [] → IsNumbered clauses literals found → found ≡ Some number → clause_numbered clauses number ≡ Some []
+named_empty : (clauses : List (List Literal)) (literals : List Literal) (found : Option ℕ) (number : ℕ) → literals ≡ [] → HasClauseNumber clauses literals found → found ≡ Some number → clause_numbered clauses number ≡ Some []
 named_empty clauses literals None number none numbered e = absurd (cc)
 named_empty clauses literals (Some other) number none numbered e =
     let same : other ≡ number = cc in

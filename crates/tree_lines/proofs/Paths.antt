@@ -4,7 +4,7 @@ use Rattle.std.proofs.lemmas.Bool.{and_parts, and_from, or_cases, or_parts, or_l
 use Rattle.clauses.specs.Clauses.{Literal, negation, signed, is_within}
 use Rattle.clauses.specs.Packing.{packed}
 use Rattle.refutations.specs.Trees.{are_opposite, is_negated, is_refuted}
-use Rattle.tree_lines.specs.parts.LiteralSets.{is_among, are_sorted, IsTautology, is_resolved, is_enough}
+use Rattle.tree_lines.specs.parts.LiteralSets.{is_in_clause, are_sorted, IsTautology, is_resolved, is_set_enough}
 use Rattle.std.specs.List.{filter}
 use Rattle.tree_lines.proofs.LiteralLaws.{is_other, sorted_without, among_without, all_at, all_by, cases_literal, other_literal, double_negation, no_own_negation}
 
@@ -31,14 +31,14 @@ negated_without x path l e other =
       | inr later ↦ later
     ]
 
-false_there : (x y : Literal) (path one other : List Literal) → y ≡ negation x → is_enough one other y ≡ true → is_refuted (x ∷ path) one ≡ true → is_refuted (y ∷ path) other ≡ true → (m : Literal) → is_among m one ≡ true → is_negated path m ≡ true
+false_there : (x y : Literal) (path one other : List Literal) → y ≡ negation x → is_set_enough one other y ≡ true → is_refuted (x ∷ path) one ≡ true → is_refuted (y ∷ path) other ≡ true → (m : Literal) → is_in_clause m one ≡ true → is_negated path m ≡ true
 false_there x y path one other opposite enough first second m there =
     elim (cases_literal m y) [
       | inr differs ↦ negated_without x path m (all_at (is_negated (x ∷ path)) one m first there) (λ e. differs (e ∙ sym opposite))
       | inl same ↦
-          elim (or_cases (not (is_among y one)) (is_among y other) enough) [
+          elim (or_cases (not (is_in_clause y one)) (is_in_clause y other) enough) [
             | inl lacks ↦
-                let has : is_among y one ≡ true = subst (λ (l : Literal). is_among l one ≡ true) same there in
+                let has : is_in_clause y one ≡ true = subst (λ (l : Literal). is_in_clause l one ≡ true) same there in
                 let wrong = rw has at lacks in
                 absurd (cc)
             | inr has ↦
@@ -49,10 +49,10 @@ false_there x y path one other opposite enough first second m there =
     ]
 
 -- the one set that is enough is false where the split's variable is open
-pub refuted_one : (x : Literal) (path one other : List Literal) → is_enough one other (negation x) ≡ true → is_refuted (x ∷ path) one ≡ true → is_refuted (negation x ∷ path) other ≡ true → is_refuted path one ≡ true
+pub refuted_one : (x : Literal) (path one other : List Literal) → is_set_enough one other (negation x) ≡ true → is_refuted (x ∷ path) one ≡ true → is_refuted (negation x ∷ path) other ≡ true → is_refuted path one ≡ true
 refuted_one x path one other enough first second = all_by (is_negated path) one (false_there x (negation x) path one other refl enough first second)
 
-pub refuted_other : (x : Literal) (path one other : List Literal) → is_enough other one x ≡ true → is_refuted (x ∷ path) one ≡ true → is_refuted (negation x ∷ path) other ≡ true → is_refuted path other ≡ true
+pub refuted_other : (x : Literal) (path one other : List Literal) → is_set_enough other one x ≡ true → is_refuted (x ∷ path) one ≡ true → is_refuted (negation x ∷ path) other ≡ true → is_refuted path other ≡ true
 refuted_other x path one other enough first second =
     all_by (is_negated path) other (false_there (negation x) x path other one (sym (double_negation x)) enough second first)
 
@@ -60,28 +60,28 @@ differs : (l m : Literal) → not (packed l == packed m) ≡ true → l ≡ m �
 differs l m e same = eqb-false (packed l) (packed m) (not-true (packed l == packed m) e) (ap packed same)
 
 -- a literal of the resolvent comes from one of the sets
-pub resolved_cases : (x l : Literal) (first second : List Literal) → is_resolved x first second l ≡ true → ((l ≡ negation x → ⊥) × (is_among l first ≡ true)) ⊎ ((l ≡ x → ⊥) × (is_among l second ≡ true))
+pub resolved_cases : (x l : Literal) (first second : List Literal) → is_resolved x first second l ≡ true → ((l ≡ negation x → ⊥) × (is_in_clause l first ≡ true)) ⊎ ((l ≡ x → ⊥) × (is_in_clause l second ≡ true))
 resolved_cases x l first second e =
-    elim (or_cases (not (packed l == packed (negation x)) && is_among l first) (not (packed l == packed x) && is_among l second) e) [
+    elim (or_cases (not (packed l == packed (negation x)) && is_in_clause l first) (not (packed l == packed x) && is_in_clause l second) e) [
       | inl one ↦
-          let parts = and_parts (not (packed l == packed (negation x))) (is_among l first) one in
+          let parts = and_parts (not (packed l == packed (negation x))) (is_in_clause l first) one in
           inl (differs l (negation x) parts.0, parts.1)
       | inr other ↦
-          let parts = and_parts (not (packed l == packed x)) (is_among l second) other in
+          let parts = and_parts (not (packed l == packed x)) (is_in_clause l second) other in
           inr (differs l x parts.0, parts.1)
     ]
 
-pub resolved_one : (x l : Literal) (first second : List Literal) → (l ≡ negation x → ⊥) → is_among l first ≡ true → is_resolved x first second l ≡ true
+pub resolved_one : (x l : Literal) (first second : List Literal) → (l ≡ negation x → ⊥) → is_in_clause l first ≡ true → is_resolved x first second l ≡ true
 resolved_one x l first second other there =
-    or_left (not (packed l == packed (negation x)) && is_among l first) (not (packed l == packed x) && is_among l second) (and_from (not (packed l == packed (negation x))) (is_among l first) (ap not (other_literal l (negation x) other)) there)
+    or_left (not (packed l == packed (negation x)) && is_in_clause l first) (not (packed l == packed x) && is_in_clause l second) (and_from (not (packed l == packed (negation x))) (is_in_clause l first) (ap not (other_literal l (negation x) other)) there)
 
-pub resolved_other : (x l : Literal) (first second : List Literal) → (l ≡ x → ⊥) → is_among l second ≡ true → is_resolved x first second l ≡ true
+pub resolved_other : (x l : Literal) (first second : List Literal) → (l ≡ x → ⊥) → is_in_clause l second ≡ true → is_resolved x first second l ≡ true
 resolved_other x l first second other there =
-    or_right (not (packed l == packed (negation x)) && is_among l first) (not (packed l == packed x) && is_among l second) (and_from (not (packed l == packed x)) (is_among l second) (ap not (other_literal l x other)) there)
+    or_right (not (packed l == packed (negation x)) && is_in_clause l first) (not (packed l == packed x) && is_in_clause l second) (and_from (not (packed l == packed x)) (is_in_clause l second) (ap not (other_literal l x other)) there)
 
 -- the literals of this set are those of the resolvent
 pub record AreResolved (x : Literal) (first second left : List Literal) : Type 0 where
-  pub members : (l : Literal) → is_among l left ≡ is_resolved x first second l
+  pub members : (l : Literal) → is_in_clause l left ≡ is_resolved x first second l
 
 -- the resolvent is false where the split's variable is open
 pub refuted_resolvent : (x : Literal) (path first second left : List Literal) → AreResolved x first second left → is_refuted (x ∷ path) first ≡ true → is_refuted (negation x ∷ path) second ≡ true → is_refuted path left ≡ true
@@ -104,17 +104,17 @@ within_resolvent x most first second left resolved one other =
 
 -- none of the two sets is enough: each has its literal of the split, and not the other's
 pub record AreNeeded (x : Literal) (first second : List Literal) : Type 0 where
-  pub in_first : is_among (negation x) first ≡ true
-  pub not_first : is_among x first ≡ false
-  pub in_second : is_among x second ≡ true
-  pub not_second : is_among (negation x) second ≡ false
+  pub in_first : is_in_clause (negation x) first ≡ true
+  pub not_first : is_in_clause x first ≡ false
+  pub in_second : is_in_clause x second ≡ true
+  pub not_second : is_in_clause (negation x) second ≡ false
 
-not_enough : (one other : List Literal) (l : Literal) → is_enough one other l ≡ false → (is_among l one ≡ true) × (is_among l other ≡ false)
+not_enough : (one other : List Literal) (l : Literal) → is_set_enough one other l ≡ false → (is_in_clause l one ≡ true) × (is_in_clause l other ≡ false)
 not_enough one other l e =
-    let parts = or_parts (not (is_among l one)) (is_among l other) e in
-    (not-false (is_among l one) parts.0, parts.1)
+    let parts = or_parts (not (is_in_clause l one)) (is_in_clause l other) e in
+    (not-false (is_in_clause l one) parts.0, parts.1)
 
-pub needed_both : (x : Literal) (first second : List Literal) → is_enough first second (negation x) ≡ false → is_enough second first x ≡ false → AreNeeded x first second
+pub needed_both : (x : Literal) (first second : List Literal) → is_set_enough first second (negation x) ≡ false → is_set_enough second first x ≡ false → AreNeeded x first second
 needed_both x first second one other =
     let firsts = not_enough first second (negation x) one in
     let seconds = not_enough second first x other in
@@ -124,9 +124,9 @@ needed_both x first second one other =
 pub tautology_one : (x : Literal) (first second left : List Literal) → AreNeeded x first second → AreResolved x first second left → IsTautology first → IsTautology left
 tautology_one x first second left needed resolved t =
     let l = t.0 in
-    let not_x : l ≡ x → ⊥ = λ e. both_ways (is_among x first) needed.not_first (subst (λ (m : Literal). is_among m first ≡ true) e t.1) in
+    let not_x : l ≡ x → ⊥ = λ e. both_ways (is_in_clause x first) needed.not_first (subst (λ (m : Literal). is_in_clause m first ≡ true) e t.1) in
     let not_negated : l ≡ negation x → ⊥ =
-    λ e. both_ways (is_among x first) needed.not_first (subst (λ (m : Literal). is_among m first ≡ true) (ap negation e ∙ double_negation x) t.2) in
+    λ e. both_ways (is_in_clause x first) needed.not_first (subst (λ (m : Literal). is_in_clause m first ≡ true) (ap negation e ∙ double_negation x) t.2) in
     let no_negation : negation l ≡ negation x → ⊥ = λ e. not_x (sym (double_negation l) ∙ ap negation e ∙ double_negation x) in
     (l, resolved.members l ∙ resolved_one x l first second not_negated t.1, resolved.members (negation l) ∙ resolved_one x (negation l) first second no_negation t.2)
 
@@ -134,8 +134,8 @@ pub tautology_other : (x : Literal) (first second left : List Literal) → AreNe
 tautology_other x first second left needed resolved t =
     let l = t.0 in
     let not_x : l ≡ x → ⊥ =
-    λ e. both_ways (is_among (negation x) second) needed.not_second (subst (λ (m : Literal). is_among m second ≡ true) (ap negation e) t.2) in
-    let not_negated : l ≡ negation x → ⊥ = λ e. both_ways (is_among (negation x) second) needed.not_second (subst (λ (m : Literal). is_among m second ≡ true) e t.1) in
+    λ e. both_ways (is_in_clause (negation x) second) needed.not_second (subst (λ (m : Literal). is_in_clause m second ≡ true) (ap negation e) t.2) in
+    let not_negated : l ≡ negation x → ⊥ = λ e. both_ways (is_in_clause (negation x) second) needed.not_second (subst (λ (m : Literal). is_in_clause m second ≡ true) e t.1) in
     let no_negation : negation l ≡ x → ⊥ = λ e. not_negated (sym (double_negation l) ∙ ap negation e) in
     (l, resolved.members l ∙ resolved_other x l first second not_x t.1, resolved.members (negation l) ∙ resolved_other x (negation l) first second no_negation t.2)
 
@@ -147,7 +147,7 @@ empty_at_root (l ∷ ls) e = absurd (cc)
 -- an empty set is no tautology
 pub no_empty_tautology : (ls : List Literal) → ls ≡ [] → IsTautology ls → ⊥
 no_empty_tautology ls e t =
-    let there = subst (λ (xs : List Literal). is_among t.0 xs ≡ true) e t.1 in
+    let there = subst (λ (xs : List Literal). is_in_clause t.0 xs ≡ true) e t.1 in
     cc
 
 -- ---- the resolvent that is made of what two filters leave
@@ -155,12 +155,12 @@ no_empty_tautology ls e t =
 pub sorted_kept : (gone : Literal) (ls kept slice : List Literal) → are_sorted ls ≡ true → kept ≡ filter (is_other gone) ls → slice ≡ kept → are_sorted slice ≡ true
 sorted_kept gone ls kept slice sorted is same = ap are_sorted (same ∙ is) ∙ sorted_without gone 2 ls sorted
 
-among_kept : (gone l : Literal) (ls kept slice : List Literal) → kept ≡ filter (is_other gone) ls → slice ≡ kept → is_among l slice ≡ (is_other gone l && is_among l ls)
-among_kept gone l ls kept slice is same = ap (is_among l) (same ∙ is) ∙ among_without gone l ls
+among_kept : (gone l : Literal) (ls kept slice : List Literal) → kept ≡ filter (is_other gone) ls → slice ≡ kept → is_in_clause l slice ≡ (is_other gone l && is_in_clause l ls)
+among_kept gone l ls kept slice is same = ap (is_in_clause l) (same ∙ is) ∙ among_without gone l ls
 
-pub members_kept : (x nx : Literal) (first second one other slice_one slice_other left : List Literal) → nx ≡ negation x → one ≡ filter (is_other nx) first → slice_one ≡ one → other ≡ filter (is_other x) second → slice_other ≡ other → ((l : Literal) → is_among l left ≡ (is_among l slice_one || is_among l slice_other)) → (l : Literal) → is_among l left ≡ is_resolved x first second l
+pub members_kept : (x nx : Literal) (first second one other slice_one slice_other left : List Literal) → nx ≡ negation x → one ≡ filter (is_other nx) first → slice_one ≡ one → other ≡ filter (is_other x) second → slice_other ≡ other → ((l : Literal) → is_in_clause l left ≡ (is_in_clause l slice_one || is_in_clause l slice_other)) → (l : Literal) → is_in_clause l left ≡ is_resolved x first second l
 members_kept x nx first second one other slice_one slice_other left opposite is_one same_one is_other_one same_other members l =
     members l
-    ∙ ap (λ (b : Bool). b || is_among l slice_other) (among_kept nx l first one slice_one is_one same_one)
-    ∙ ap (λ (b : Bool). (is_other nx l && is_among l first) || b) (among_kept x l second other slice_other is_other_one same_other)
-    ∙ ap (λ (y : Literal). (is_other y l && is_among l first) || (is_other x l && is_among l second)) opposite
+    ∙ ap (λ (b : Bool). b || is_in_clause l slice_other) (among_kept nx l first one slice_one is_one same_one)
+    ∙ ap (λ (b : Bool). (is_other nx l && is_in_clause l first) || b) (among_kept x l second other slice_other is_other_one same_other)
+    ∙ ap (λ (y : Literal). (is_other y l && is_in_clause l first) || (is_other x l && is_in_clause l second)) opposite

@@ -4,23 +4,23 @@ use Rattle.std.proofs.lemmas.Bool.{and_parts, and_from, both_ways, ltb-true, eq-
 use Rattle.clauses.specs.Clauses.{Literal, Conjunction, negation, signed, rises, rises_above, is_within}
 use Rattle.clauses.specs.Packing.{packed}
 use Rattle.refutations.specs.Proofs.{ProofLine}
-use Rattle.refutations.specs.Propagation.{PartialValues, no_values, assign, make_false, is_unknown, is_false, not_false, is_open}
+use Rattle.refutations.specs.Propagation.{PartialValues, no_values, assign, make_false, has_no_value, is_false, not_false, is_open_literal}
 use Rattle.refutations.specs.Derivations.{clauses_before, clause_numbered, assumed, IsUnit, IsConflict, Derives}
-use Rattle.tree_lines.specs.parts.LiteralSets.{is_among, are_sorted, are_sorted_from}
+use Rattle.tree_lines.specs.parts.LiteralSets.{is_in_clause, are_sorted, are_sorted_from}
 use Rattle.tree_lines.proofs.LiteralLaws.{all_at, among_head, among_tail, among_cases, cases_literal, of_one_variable, sorted_above}
 use Rattle.tree_lines.proofs.Paths.{AreResolved, AreNeeded, resolved_cases, resolved_one, resolved_other}
 
 -- ---- what is known where literals are assumed false
 
 -- nothing new of a variable that none of them has
-known_elsewhere : (known : PartialValues) (ls : List Literal) (v : ℕ) → ((m : Literal) → is_among m ls ≡ true → m.variable ≡ v → ⊥) → make_false known ls v ≡ known v
+known_elsewhere : (known : PartialValues) (ls : List Literal) (v : ℕ) → ((m : Literal) → is_in_clause m ls ≡ true → m.variable ≡ v → ⊥) → make_false known ls v ≡ known v
 known_elsewhere known [] v none = refl
 known_elsewhere known (l ∷ ls) v none =
     let apart : v ≡ l.variable → ⊥ = λ e. none l (among_head l ls) (sym e) in
     let here : assign known (negation l) v ≡ known v = rw (ne_eqb v l.variable apart) refl in
     known_elsewhere (assign known (negation l)) ls v (λ m there. none m (among_tail m l ls there)) ∙ here
 
-rises_higher : (low : ℕ) (ls : List Literal) (m : Literal) → rises_above low ls ≡ true → is_among m ls ≡ true → low < m.variable
+rises_higher : (low : ℕ) (ls : List Literal) (m : Literal) → rises_above low ls ≡ true → is_in_clause m ls ≡ true → low < m.variable
 rises_higher low [] m e there = absurd (cc)
 rises_higher low (l ∷ ls) m e there =
     let parts = and_parts (nat_lt low l.variable) (rises_above l.variable ls) e in
@@ -31,7 +31,7 @@ rises_higher low (l ∷ ls) m e there =
     ]
 
 -- the negation of each, where no variable stands twice
-known_there : (known : PartialValues) (low : ℕ) (ls : List Literal) (m : Literal) → rises_above low ls ≡ true → is_among m ls ≡ true → make_false known ls m.variable ≡ Some (not m.positive)
+known_there : (known : PartialValues) (low : ℕ) (ls : List Literal) (m : Literal) → rises_above low ls ≡ true → is_in_clause m ls ≡ true → make_false known ls m.variable ≡ Some (not m.positive)
 known_there known low [] m e there = absurd (cc)
 known_there known low (l ∷ ls) m e there =
     let parts = and_parts (nat_lt low l.variable) (rises_above l.variable ls) e in
@@ -58,42 +58,42 @@ not_false_by known m e = rw e refl
 
 -- ---- the literals that are not false
 
-none_left : (known : PartialValues) (ls : List Literal) → ((m : Literal) → is_among m ls ≡ true → is_false known m ≡ true) → not_false known ls ≡ []
+none_left : (known : PartialValues) (ls : List Literal) → ((m : Literal) → is_in_clause m ls ≡ true → is_false known m ≡ true) → not_false known ls ≡ []
 none_left known [] each = refl
 none_left known (l ∷ ls) each = rw (each l (among_head l ls)) (none_left known ls (λ m there. each m (among_tail m l ls there)))
 
-one_left : (known : PartialValues) (low : ℕ) (ls : List Literal) (x : Literal) → are_sorted_from low ls ≡ true → is_among x ls ≡ true → is_false known x ≡ false → ((m : Literal) → is_among m ls ≡ true → (m ≡ x → ⊥) → is_false known m ≡ true) → not_false known ls ≡ x ∷ []
-one_left known low [] x sorted there is_open each = absurd (cc)
-one_left known low (l ∷ ls) x sorted there is_open each =
+one_left : (known : PartialValues) (low : ℕ) (ls : List Literal) (x : Literal) → are_sorted_from low ls ≡ true → is_in_clause x ls ≡ true → is_false known x ≡ false → ((m : Literal) → is_in_clause m ls ≡ true → (m ≡ x → ⊥) → is_false known m ≡ true) → not_false known ls ≡ x ∷ []
+one_left known low [] x sorted there is_open_literal each = absurd (cc)
+one_left known low (l ∷ ls) x sorted there is_open_literal each =
     let parts = and_parts (nat_le low (packed l)) (are_sorted_from (packed l + 1) ls) sorted in
     elim (cases_literal l x) [
       | inl same ↦
-          let stays : is_false known l ≡ false = subst (λ (m : Literal). is_false known m ≡ false) (sym same) is_open in
+          let stays : is_false known l ≡ false = subst (λ (m : Literal). is_false known m ≡ false) (sym same) is_open_literal in
           let rest = none_left known ls (λ m behind. each m (among_tail m l ls behind) (λ e.
           let higher = sorted_above (packed l + 1) ls m parts.1 behind in
           let place = ap packed (e ∙ sym same) in
           omega arith)) in
           rw stays (ap (λ (ms : List Literal). l ∷ ms) rest ∙ ap (λ (m : Literal). m ∷ []) same)
       | inr other ↦
-          let later : is_among x ls ≡ true = elim (among_cases x l ls there) [ inl here ↦ absurd (other here) | inr behind ↦ behind ] in
-          rw (each l (among_head l ls) other) (one_left known (packed l + 1) ls x parts.1 later is_open (λ m behind. each m (among_tail m l ls behind)))
+          let later : is_in_clause x ls ≡ true = elim (among_cases x l ls there) [ inl here ↦ absurd (other here) | inr behind ↦ behind ] in
+          rw (each l (among_head l ls) other) (one_left known (packed l + 1) ls x parts.1 later is_open_literal (λ m behind. each m (among_tail m l ls behind)))
     ]
 
 -- ---- the resolvent
 
 -- its literals have another variable than the split
-no_split_variable : (x : Literal) (first second left : List Literal) → AreNeeded x first second → AreResolved x first second left → (m : Literal) → is_among m left ≡ true → m.variable ≡ x.variable → ⊥
+no_split_variable : (x : Literal) (first second left : List Literal) → AreNeeded x first second → AreResolved x first second left → (m : Literal) → is_in_clause m left ≡ true → m.variable ≡ x.variable → ⊥
 no_split_variable x first second left needed resolved m there same =
     elim (resolved_cases x m first second (sym (resolved.members m) ∙ there)) [
       | inl one ↦
           elim (of_one_variable m x same) [
-            | inl is ↦ both_ways (is_among x first) needed.not_first (subst (λ (l : Literal). is_among l first ≡ true) is one.1)
+            | inl is ↦ both_ways (is_in_clause x first) needed.not_first (subst (λ (l : Literal). is_in_clause l first ≡ true) is one.1)
             | inr is ↦ one.0 is
           ]
       | inr other ↦
           elim (of_one_variable m x same) [
             | inl is ↦ other.0 is
-            | inr is ↦ both_ways (is_among (negation x) second) needed.not_second (subst (λ (l : Literal). is_among l second ≡ true) is other.1)
+            | inr is ↦ both_ways (is_in_clause (negation x) second) needed.not_second (subst (λ (l : Literal). is_in_clause l second ≡ true) is other.1)
           ]
     ]
 
@@ -104,14 +104,14 @@ resolvent_derives f earlier x one other first second left named named_other sort
     let line : ProofLine = record { literals = left; hints = one ∷ other ∷ [] } in
     let known : PartialValues = assumed line in
     let negated : Literal = negation x in
-    let false_in_left : (m : Literal) → is_among m left ≡ true → is_false known m ≡ true =
+    let false_in_left : (m : Literal) → is_in_clause m left ≡ true → is_false known m ≡ true =
     λ m there. false_by known m (known_there no_values 0 left m rising there) in
     let nothing : known x.variable ≡ None = known_elsewhere no_values left x.variable (no_split_variable x first second left needed resolved) in
     let unit : IsUnit f.variables (clauses_before f earlier) known one negated = record {
       clause = first;
       named = named;
       others_false = one_left known 2 first negated sorted needed.in_first (not_false_by known negated nothing) (λ m there apart. false_in_left m (resolved.members m ∙ resolved_one x m first second apart there));
-      unassigned = and_from (nat_le x.variable f.variables) (is_unknown (known x.variable)) (all_at (λ l. nat_le l.variable f.variables) first negated within needed.in_first) (ap is_unknown nothing);
+      unassigned = and_from (nat_le x.variable f.variables) (has_no_value (known x.variable)) (all_at (λ l. nat_le l.variable f.variables) first negated within needed.in_first) (ap has_no_value nothing);
     } in
     let after : PartialValues = assign known negated in
     let conflict : IsConflict (clauses_before f earlier) after other = record {

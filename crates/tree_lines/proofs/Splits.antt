@@ -1,27 +1,27 @@
 -- The entry of a split, from those of the trees below it.
 use Rattle.std.proofs.Common.{◌≡◌, ℕ, true, false, IsTrue, List, [], ◌∷◌, ◌++◌, Option, Some, None, ap, subst, sym, ◌∙◌, inl, inr, ◌⊎◌}
 use Rattle.clauses.specs.Clauses.{Literal, Conjunction, negation, rises, is_within}
-use Rattle.refutations.specs.Proofs.{ProofLine, is_number}
+use Rattle.refutations.specs.Proofs.{ProofLine, is_proof_number}
 use Rattle.refutations.specs.Derivations.{clauses_before, clause_numbered, Derives}
 use Rattle.refutations.specs.Refutations.{AreDerived}
 use Rattle.refutations.specs.Trees.{is_refuted}
 use Rattle.tree_lines.specs.declared.joining.Entry.{Entry}
-use Rattle.tree_lines.specs.parts.LiteralSets.{is_among, are_sorted, IsTautology, is_resolved, is_enough}
-use Rattle.tree_lines.specs.parts.Entries.{IsNumbered, IsEntry, IsAddedEntry, IsSplitEntry}
+use Rattle.tree_lines.specs.parts.LiteralSets.{is_in_clause, are_sorted, IsTautology, is_resolved, is_set_enough}
+use Rattle.tree_lines.specs.parts.Entries.{HasClauseNumber, IsEntry, IsAddedEntry, IsSplitEntry}
 use Rattle.tree_lines.proofs.Paths.{refuted_one, refuted_other, AreResolved, refuted_resolvent, within_resolvent, AreNeeded, needed_both, tautology_one, tautology_other}
 use Rattle.tree_lines.proofs.Added.{goes_on_none}
 use Rattle.tree_lines.proofs.Resolvents.{resolvent_derives}
 
-pub first_enough : (f : Conjunction) (lines old : List ProofLine) (x nx : Literal) (first second : Entry) → AreDerived f (lines ++ old) → IsEntry f (lines ++ old) first → nx ≡ negation x → is_enough first.literals.items second.literals.items nx ≡ true → IsSplitEntry f lines old old x first second first
+pub first_enough : (f : Conjunction) (lines old : List ProofLine) (x nx : Literal) (first second : Entry) → AreDerived f (lines ++ old) → IsEntry f (lines ++ old) first → nx ≡ negation x → is_set_enough first.literals.items second.literals.items nx ≡ true → IsSplitEntry f lines old old x first second first
 first_enough f lines old x nx first second derived is opposite enough =
-    let there = subst (λ (l : Literal). is_enough first.literals.items second.literals.items l ≡ true) opposite enough in
+    let there = subst (λ (l : Literal). is_set_enough first.literals.items second.literals.items l ≡ true) opposite enough in
     record {
       added = goes_on_none f lines old derived;
       is_entry = is;
       false_there = λ path one other. refuted_one x path first.literals.items second.literals.items there one other;
     }
 
-pub second_enough : (f : Conjunction) (lines old : List ProofLine) (x : Literal) (first second : Entry) → AreDerived f (lines ++ old) → IsEntry f (lines ++ old) second → is_enough second.literals.items first.literals.items x ≡ true → IsSplitEntry f lines old old x first second second
+pub second_enough : (f : Conjunction) (lines old : List ProofLine) (x : Literal) (first second : Entry) → AreDerived f (lines ++ old) → IsEntry f (lines ++ old) second → is_set_enough second.literals.items first.literals.items x ≡ true → IsSplitEntry f lines old old x first second second
 second_enough f lines old x first second derived is enough =
     record {
       added = goes_on_none f lines old derived;
@@ -37,12 +37,12 @@ pub record IsLeft (f : Conjunction) (lines : List ProofLine) (x : Literal) (firs
   pub resolved : AreResolved x first.literals.items second.literals.items left
   pub sorted : are_sorted left ≡ true
 
-pub is_left : (f : Conjunction) (lines : List ProofLine) (x nx : Literal) (first second : Entry) (one other left : List Literal) → IsEntry f lines first → IsEntry f lines second → nx ≡ negation x → is_enough first.literals.items second.literals.items nx ≡ false → is_enough second.literals.items first.literals.items x ≡ false → one ≡ first.literals.items → other ≡ second.literals.items → are_sorted left ≡ true → ((l : Literal) → is_among l left ≡ is_resolved x one other l) → IsLeft f lines x first second left
+pub is_left : (f : Conjunction) (lines : List ProofLine) (x nx : Literal) (first second : Entry) (one other left : List Literal) → IsEntry f lines first → IsEntry f lines second → nx ≡ negation x → is_set_enough first.literals.items second.literals.items nx ≡ false → is_set_enough second.literals.items first.literals.items x ≡ false → one ≡ first.literals.items → other ≡ second.literals.items → are_sorted left ≡ true → ((l : Literal) → is_in_clause l left ≡ is_resolved x one other l) → IsLeft f lines x first second left
 is_left f lines x nx first second one other left first_is second_is opposite not_first not_second same same_other sorted members =
     record {
       first_is = first_is;
       second_is = second_is;
-      needed = needed_both x first.literals.items second.literals.items (subst (λ (l : Literal). is_enough first.literals.items second.literals.items l ≡ false) opposite not_first) not_second;
+      needed = needed_both x first.literals.items second.literals.items (subst (λ (l : Literal). is_set_enough first.literals.items second.literals.items l ≡ false) opposite not_first) not_second;
       resolved = record {
         members = λ l. members l ∙ ap (λ (ls : List Literal). is_resolved x ls other l) same ∙ ap (λ (ls : List Literal). is_resolved x first.literals.items ls l) same_other;
       };
@@ -54,7 +54,7 @@ left_within f lines x first second left is =
     within_resolvent x f.variables first.literals.items second.literals.items left is.resolved is.first_is.within is.second_is.within
 
 -- without a number each set is a tautology
-unnumbered : (clauses : List (List Literal)) (literals : List Literal) (found : Option ℕ) → found ≡ None → IsNumbered clauses literals found → IsTautology literals
+unnumbered : (clauses : List (List Literal)) (literals : List Literal) (found : Option ℕ) → found ≡ None → HasClauseNumber clauses literals found → IsTautology literals
 unnumbered clauses literals None e numbered = numbered
 unnumbered clauses literals (Some number) e numbered = absurd (cc)
 
@@ -72,18 +72,18 @@ left_unnumbered f lines old x first second entry left derived is none same found
       is_entry = record {
         sorted = ap are_sorted same ∙ is.sorted;
         within = ap (is_within f.variables) same ∙ left_within f (lines ++ old) x first second left is;
-        numbered = subst (λ (o : Option ℕ). IsNumbered (clauses_before f (lines ++ old)) entry.literals.items o) (sym found) (subst (λ (ls : List Literal). IsTautology ls) (sym same) tautology);
+        numbered = subst (λ (o : Option ℕ). HasClauseNumber (clauses_before f (lines ++ old)) entry.literals.items o) (sym found) (subst (λ (ls : List Literal). IsTautology ls) (sym same) tautology);
       };
       false_there = λ path one other. ap (is_refuted path) same ∙ refuted_resolvent x path first.literals.items second.literals.items left is.resolved one other;
     }
 
-numbered_with : (clauses : List (List Literal)) (literals : List Literal) (found : Option ℕ) (number : ℕ) → found ≡ Some number → IsNumbered clauses literals found → (clause_numbered clauses number ≡ Some literals) × IsTrue (is_number number)
+numbered_with : (clauses : List (List Literal)) (literals : List Literal) (found : Option ℕ) (number : ℕ) → found ≡ Some number → HasClauseNumber clauses literals found → (clause_numbered clauses number ≡ Some literals) × IsTrue (is_proof_number number)
 numbered_with clauses literals None number e numbered = absurd (cc)
 numbered_with clauses literals (Some other) number e numbered =
     let same : other ≡ number = cc in
-    subst (λ (n : ℕ). (clause_numbered clauses n ≡ Some literals) × IsTrue (is_number n)) same numbered
+    subst (λ (n : ℕ). (clause_numbered clauses n ≡ Some literals) × IsTrue (is_proof_number n)) same numbered
 
-pub entry_number : (f : Conjunction) (lines : List ProofLine) (entry : Entry) (number : ℕ) → IsEntry f lines entry → entry.number ≡ Some number → (clause_numbered (clauses_before f lines) number ≡ Some entry.literals.items) × IsTrue (is_number number)
+pub entry_number : (f : Conjunction) (lines : List ProofLine) (entry : Entry) (number : ℕ) → IsEntry f lines entry → entry.number ≡ Some number → (clause_numbered (clauses_before f lines) number ≡ Some entry.literals.items) × IsTrue (is_proof_number number)
 entry_number f lines entry number is found = numbered_with (clauses_before f lines) entry.literals.items entry.number number found is.numbered
 
 pub left_derives : (f : Conjunction) (lines : List ProofLine) (x : Literal) (first second : Entry) (left : List Literal) (hints : List ℕ) (one other : ℕ) → IsLeft f lines x first second left → first.number ≡ Some one → second.number ≡ Some other → hints ≡ one ∷ other ∷ [] → rises left ≡ true → Derives f lines (record { literals = left; hints = hints })

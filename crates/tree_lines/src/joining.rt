@@ -3,12 +3,12 @@
 ghost use Rattle.std.specs.Prelude.{◌≡◌, ◌+◌, ◌≤◌, ◌++◌, ◌∷◌, ◌||◌, [], not, length, vec_len, IfOk, IfSome, OnOk, IsSome, IsTrue, Some};
 ghost use Rattle.std.specs.Option.{option_map};
 ghost use Rattle.clauses.specs.Clauses.{rises, is_within};
-ghost use Rattle.refutations.specs.Proofs.{is_number, are_numbers};
+ghost use Rattle.refutations.specs.Proofs.{is_proof_number, are_numbers};
 ghost use Rattle.refutations.specs.Derivations.{clauses_before, clause_numbered, Derives};
 ghost use Rattle.refutations.specs.Refutations.{AreDerived, Accepts};
 ghost use Rattle.tree_lines.specs.parts.Entries.{IsEntry, IsAddedEntry, IsSplitEntry};
 ghost use Rattle.tree_lines.specs.Joining.{Joins};
-ghost use Rattle.tree_lines.specs.parts.LiteralSets.{are_sorted, is_enough};
+ghost use Rattle.tree_lines.specs.parts.LiteralSets.{are_sorted, is_set_enough};
 
 use crate::literals::{has, resolvent};
 use clauses::{Formula, Lit};
@@ -48,7 +48,7 @@ fn leaf_entry(
     number: u32,
 ) -> Result<Entry, AllocError>
     requires named { IsSome (clause_numbered (clauses_before formula.now lines.now) number) }
-    requires number { IsTrue (is_number number) }
+    requires number { IsTrue (is_proof_number number) }
     requires derived { AreDerived formula.now lines.now }
     ensures literals { IfOk result (λ entry. clause_numbered (clauses_before formula.now lines.now) number ≡ Some entry.literals.items) }
     ensures entry { IfOk result (λ entry. IsEntry formula.now lines.now entry) }
@@ -66,7 +66,7 @@ fn leaf_entry(
 /// The number of the next line; none above [`LARGEST_NUMBER`].
 fn next_number(formula: &Formula, lines: &[Line], added: &[Line]) -> Option<u32>
     ensures next { IfSome result (λ number. number ≡ length formula.now.clauses + length lines.now + length added.now + 1) }
-    ensures number { IfSome result (λ number. IsTrue (is_number number)) }
+    ensures number { IfSome result (λ number. IsTrue (is_proof_number number)) }
 {
     let number = formula.clauses().len() + lines.len() + added.len() + 1;
     if number > LARGEST_NUMBER as usize {
@@ -116,7 +116,7 @@ fn add_line(
 /// Whether a split's one entry is enough without the other: it lacks its literal of the split, or
 /// the other one has that literal too, and then the path above the split has its negation.
 fn is_enough(one: &Entry, other: &Entry, literal: &Lit) -> bool
-    ensures { result ≡ is_enough one.now.literals.items other.now.literals.items literal.now }
+    ensures { result ≡ is_set_enough one.now.literals.items other.now.literals.items literal.now }
 {
     !has(one.literals.as_slice(), literal) || has(other.literals.as_slice(), literal)
 }

@@ -4,15 +4,15 @@ use Rattle.std.proofs.lemmas.Bool.{cases_lt}
 use Rattle.std.proofs.lemmas.List.{set-append_left, length-append, get_or_append_left, get_or_read}
 use Rattle.refutations.specs.Trees.{branch}
 use Rattle.trees.specs.declared.tree.NodeKind.TheVariants.{Leaf, Split}
-use Rattle.trees.specs.Trees.{TreeNode, TreeState, leaf_with, path_at, IsLeaf, split_at, one_leaf, one_more, HasNoRoom, IsGrown}
+use Rattle.trees.specs.Trees.{TreeNode, TreeState, leaf_with, path_at, IsLeaf, split_at, one_leaf, one_more, HasNoRoom, IsGrownTree}
 use Rattle.trees.proofs.Splits.{kind_within, length_after, shallow_after, first_shallow}
 
-pub grown_first : (variables : ℕ) (nodes : List TreeNode) → variables ≤ 2147483647 → nodes ≡ leaf_with [] ∷ [] → IsGrown (record { variables = variables; nodes = nodes })
+pub grown_first : (variables : ℕ) (nodes : List TreeNode) → variables ≤ 2147483647 → nodes ≡ leaf_with [] ∷ [] → IsGrownTree (record { variables = variables; nodes = nodes })
 grown_first variables nodes fits are =
-    subst (λ (ns : List TreeNode). IsGrown (record { variables = variables; nodes = ns })) (sym are)
+    subst (λ (ns : List TreeNode). IsGrownTree (record { variables = variables; nodes = ns })) (sym are)
     (record { variables_fit = fits; grows = one_leaf; few = omega arith; shallow = first_shallow })
 
-grown_after : (variables : ℕ) (nodes : List TreeNode) (place v : ℕ) → IsGrown (record { variables = variables; nodes = nodes }) → IsLeaf nodes place → 1 ≤ v → v ≤ variables → (HasNoRoom nodes place → ⊥) → IsGrown (record { variables = variables; nodes = split_at nodes place v })
+grown_after : (variables : ℕ) (nodes : List TreeNode) (place v : ℕ) → IsGrownTree (record { variables = variables; nodes = nodes }) → IsLeaf nodes place → 1 ≤ v → v ≤ variables → (HasNoRoom nodes place → ⊥) → IsGrownTree (record { variables = variables; nodes = split_at nodes place v })
 grown_after variables nodes place v grown is low high room =
     let there = kind_within nodes place Leaf is in
     let short : length (path_at nodes place) + 1 ≤ 64 = elim (cases_lt 64 (length (path_at nodes place) + 1)) [ inl long ↦ absurd (room (inr long)) | inr short ↦ short ] in
@@ -25,11 +25,11 @@ grown_after variables nodes place v grown is low high room =
     }
 
 -- the same for the state of a tree with these nodes
-pub state_grown_after : (state : TreeState) (variables : ℕ) (nodes new : List TreeNode) (place v : ℕ) → record { variables = variables; nodes = nodes } ≡ state → IsGrown (record { variables = variables; nodes = nodes }) → IsLeaf state.nodes place → 1 ≤ v → v ≤ state.variables → (HasNoRoom state.nodes place → ⊥) → new ≡ split_at nodes place v → IsGrown (record { variables = variables; nodes = new })
+pub state_grown_after : (state : TreeState) (variables : ℕ) (nodes new : List TreeNode) (place v : ℕ) → record { variables = variables; nodes = nodes } ≡ state → IsGrownTree (record { variables = variables; nodes = nodes }) → IsLeaf state.nodes place → 1 ≤ v → v ≤ state.variables → (HasNoRoom state.nodes place → ⊥) → new ≡ split_at nodes place v → IsGrownTree (record { variables = variables; nodes = new })
 state_grown_after state variables nodes new place v view grown is low high room are =
     let same : nodes ≡ state.nodes = ap (λ (s : TreeState). s.nodes) view in
     let as_many : variables ≡ state.variables = ap (λ (s : TreeState). s.variables) view in
-    subst (λ (ns : List TreeNode). IsGrown (record { variables = variables; nodes = ns })) (sym are)
+    subst (λ (ns : List TreeNode). IsGrownTree (record { variables = variables; nodes = ns })) (sym are)
     (grown_after variables nodes place v grown
     (subst (λ (ns : List TreeNode). IsLeaf ns place) (sym same) is)
     low

@@ -5,7 +5,7 @@ use Rattle.std.specs.List.{list_all}
 use Rattle.std.proofs.lemmas.Bool.{cases_Bool, cases_eq, cases_lt, and_parts, and_from, le-leb, both_ways, not-true}
 use Rattle.std.proofs.lemmas.List.{length-set, length-append, get_or-set_same, get_or-set_other, get_or_append_left, get_or-append_right, get_or_past}
 use Rattle.std.proofs.lemmas.Option.{slice_get-get_or, slice_get_past}
-use Rattle.clauses.specs.Clauses.{Literal, TruthAssignment, holds}
+use Rattle.clauses.specs.Clauses.{Literal, TruthAssignment, makes_true}
 use Rattle.refutations.specs.BinaryTrees.{Tree, leaf, split}
 use Rattle.refutations.specs.Trees.{branch, IsRefuted, Refutes}
 use Rattle.trees.specs.declared.tree.NodeKind.{NodeKind}
@@ -130,21 +130,21 @@ module _ (nodes : List TreeNode) (place v : ℕ) (there : place < length nodes) 
         let low = kind_within nodes k Leaf reached.is_leaf in
         record {
           is_leaf = kind_kept k low other ∙ reached.is_leaf;
-          all_true = subst (λ (ls : List Literal). list_all (holds a) ls ≡ true) (sym (path_kept k low)) reached.all_true;
+          all_true = subst (λ (ls : List Literal). list_all (makes_true a) ls ≡ true) (sym (path_kept k low)) reached.all_true;
         }
 
     reached_true : a v ≡ true → IsReachedLeaf nodes a place → IsReachedLeaf after a count
     reached_true holds_here reached =
         record {
           is_leaf = leaf_for_true;
-          all_true = subst (λ (ls : List Literal). list_all (holds a) ls ≡ true) (sym path_for_true) (and_from (a v) (list_all (holds a) path) holds_here reached.all_true);
+          all_true = subst (λ (ls : List Literal). list_all (makes_true a) ls ≡ true) (sym path_for_true) (and_from (a v) (list_all (makes_true a) path) holds_here reached.all_true);
         }
 
     reached_false : a v ≡ false → IsReachedLeaf nodes a place → IsReachedLeaf after a (count + 1)
     reached_false fails_here reached =
         record {
           is_leaf = leaf_for_false;
-          all_true = subst (λ (ls : List Literal). list_all (holds a) ls ≡ true) (sym path_for_false) (and_from (not (a v)) (list_all (holds a) path) (ap not fails_here) reached.all_true);
+          all_true = subst (λ (ls : List Literal). list_all (makes_true a) ls ≡ true) (sym path_for_false) (and_from (not (a v)) (list_all (makes_true a) path) (ap not fails_here) reached.all_true);
         }
 
     -- the leaf that is reached after the split tells the one before
@@ -164,15 +164,15 @@ module _ (nodes : List TreeNode) (place v : ℕ) (there : place < length nodes) 
                 from = k;
                 reached = record {
                   is_leaf = sym (kind_kept k low other) ∙ reached.is_leaf;
-                  all_true = subst (λ (ls : List Literal). list_all (holds a) ls ≡ true) (path_kept k low) reached.all_true;
+                  all_true = subst (λ (ls : List Literal). list_all (makes_true a) ls ≡ true) (path_kept k low) reached.all_true;
                 };
                 same = λ _. refl;
                 when_true = λ here _. absurd (other here);
                 when_false = λ here _. absurd (other here);
               }
           | is_true first ↦
-              let all : list_all (holds a) (branch v true path) ≡ true = subst (λ (ls : List Literal). list_all (holds a) ls ≡ true) (ap (path_at after) first ∙ path_for_true) reached.all_true in
-              let parts = and_parts (a v) (list_all (holds a) path) all in
+              let all : list_all (makes_true a) (branch v true path) ≡ true = subst (λ (ls : List Literal). list_all (makes_true a) ls ≡ true) (ap (path_at after) first ∙ path_for_true) reached.all_true in
+              let parts = and_parts (a v) (list_all (makes_true a) path) all in
               record {
                 from = place;
                 reached = record { is_leaf = is; all_true = parts.1 };
@@ -181,8 +181,8 @@ module _ (nodes : List TreeNode) (place v : ℕ) (there : place < length nodes) 
                 when_false = λ _ wrong. absurd (both_ways (a v) wrong parts.0);
               }
           | is_false second ↦
-              let all : list_all (holds a) (branch v false path) ≡ true = subst (λ (ls : List Literal). list_all (holds a) ls ≡ true) (ap (path_at after) second ∙ path_for_false) reached.all_true in
-              let parts = and_parts (not (a v)) (list_all (holds a) path) all in
+              let all : list_all (makes_true a) (branch v false path) ≡ true = subst (λ (ls : List Literal). list_all (makes_true a) ls ≡ true) (ap (path_at after) second ∙ path_for_false) reached.all_true in
+              let parts = and_parts (not (a v)) (list_all (makes_true a) path) all in
               record {
                 from = place;
                 reached = record { is_leaf = is; all_true = parts.1 };

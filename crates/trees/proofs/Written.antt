@@ -6,7 +6,7 @@ use Rattle.std.proofs.lemmas.Bool.{and_from, le-leb}
 use Rattle.std.proofs.lemmas.List.{append-nil}
 use Rattle.std.proofs.lemmas.List.Folds.{list_all-append}
 use Rattle.refutations.specs.BinaryTrees.{Tree, leaf, split, preorder}
-use Rattle.refutations.specs.Proofs.{are_trees, is_tree, is_number, number_of, are_numbered}
+use Rattle.refutations.specs.Proofs.{are_trees, is_tree, is_proof_number, number_of, are_numbered}
 use Rattle.refutations.specs.declared.tree.Node.{Node}
 use Rattle.refutations.specs.declared.tree.Node.TheVariants.{Split as SplitNode, Leaf as LeafNode}
 use Rattle.trees.specs.declared.tree.NodeKind.{NodeKind}
@@ -120,14 +120,14 @@ module _ (variables : ℕ) (nodes : List TreeNode) (numbers : List ℕ) (grows :
 
   pub numbered_below : variables ≤ 2147483647 → AreLeavesNumbered nodes numbers → (tree : Tree) (node : ℕ) → IsBelow nodes numbers tree node → are_numbered (preorder tree) ≡ true
   numbered_below fits leaves (leaf number) node below =
-      and_from (is_number number) true (subst (λ (n : ℕ). is_number n ≡ true) (sym below.1) (leaves node below.0)) refl
+      and_from (is_proof_number number) true (subst (λ (n : ℕ). is_proof_number n ≡ true) (sym below.1) (leaves node below.0)) refl
   numbered_below fits leaves (split v first second) node below =
       let s = sound node v below.0 below.1 below.2 in
       let here = and_from (leb 1 v) (leb v 2147483647) (le-leb 1 v s.from_one) (le-leb v 2147483647 (omega (arith, s.within))) in
       let one = numbered_below fits leaves first below.0 below.3 in
       let two = numbered_below fits leaves second below.1 below.4 in
-      and_from (is_number v) (are_numbered (preorder first ++ preorder second)) here
-      (list_all-append (λ n. is_number (number_of n)) (preorder first) (preorder second) ∙ and_from (are_numbered (preorder first)) (are_numbered (preorder second)) one two)
+      and_from (is_proof_number v) (are_numbered (preorder first ++ preorder second)) here
+      (list_all-append (λ n. is_proof_number (number_of n)) (preorder first) (preorder second) ∙ and_from (are_numbered (preorder first)) (are_numbered (preorder second)) one two)
 
   -- ---- nodes that wait
 

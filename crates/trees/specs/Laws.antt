@@ -1,7 +1,7 @@
 -- What holds of every tree that grows.
 use Rattle.std.specs.Prelude.{◌≡◌, ◌≢◌, ℕ, ◌+◌, ◌<◌, ◌≤◌, nat_le, Bool, ◌&&◌, true, false, IsTrue, List, [], Some, length, slice_index}
 use Rattle.std.specs.List.{list_all}
-use Rattle.clauses.specs.Clauses.{Literal, TruthAssignment, holds}
+use Rattle.clauses.specs.Clauses.{Literal, TruthAssignment, makes_true}
 use Rattle.refutations.specs.BinaryTrees.{Tree}
 use Rattle.refutations.specs.Trees.{branch, IsRefuted, Refutes}
 use Rattle.trees.specs.declared.tree.NodeKind.TheVariants.{Split}
@@ -10,7 +10,7 @@ use Rattle.trees.specs.Trees.{TreeNode, Grows, IsLeaf, IsBelow, path_at, kind_at
 -- there is a leaf of this number, all of whose literals are true
 pub record IsReachedLeaf (nodes : List TreeNode) (a : TruthAssignment) (place : ℕ) : Type 0 where
   pub is_leaf : IsLeaf nodes place
-  pub all_true : IsTrue (list_all (holds a) (path_at nodes place))
+  pub all_true : IsTrue (list_all (makes_true a) (path_at nodes place))
 
 -- each assignment makes all literals of one leaf true, and those of no other
 abbrev pub OneLeafForEachAssignment : Type 0

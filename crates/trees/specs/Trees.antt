@@ -3,7 +3,7 @@ use Rattle.std.specs.Prelude.{◌≡◌, ◌⊎◌, ℕ, ◌+◌, ◌≤◌, ◌
 use Rattle.std.specs.Option.{option_map}
 use Rattle.clauses.specs.Clauses.{Literal}
 use Rattle.refutations.specs.BinaryTrees.{Tree, leaf, split}
-use Rattle.refutations.specs.Proofs.{is_number}
+use Rattle.refutations.specs.Proofs.{is_proof_number}
 use Rattle.refutations.specs.Trees.{branch}
 use Rattle.trees.specs.declared.tree.NodeKind.{NodeKind}
 use Rattle.trees.specs.declared.tree.NodeKind.TheVariants.{Leaf, Split}
@@ -57,7 +57,7 @@ abbrev pub IsShallow : List TreeNode → Type 0
 IsShallow nodes = (node : ℕ) → length (path_at nodes node) ≤ 64
 
 -- what holds of every tree
-pub record IsGrown (tree : TreeState) : Type 0 where
+pub record IsGrownTree (tree : TreeState) : Type 0 where
   pub variables_fit : tree.variables ≤ 2147483647
   pub grows : Grows tree.variables tree.nodes
   pub few : length tree.nodes ≤ 65536
@@ -74,4 +74,4 @@ IsBelow nodes numbers (split v first second) node =
 
 -- each leaf has the number of a clause at its place
 abbrev pub AreLeavesNumbered : List TreeNode → List ℕ → Type 0
-AreLeavesNumbered nodes numbers = (place : ℕ) → IsLeaf nodes place → IsTrue (is_number (slice_index numbers place))
+AreLeavesNumbered nodes numbers = (place : ℕ) → IsLeaf nodes place → IsTrue (is_proof_number (slice_index numbers place))

@@ -2,7 +2,7 @@
 
 ghost use Rattle.std.specs.Prelude.{◌≡◌, ◌≤◌, ◌<◌, ◌+◌, ◌∷◌, ◌++◌, ◌↔◌, [], IfOk, IfSome, OnOk, OnErr, IsTrue, Some, length};
 ghost use Rattle.refutations.specs.Trees.{branch};
-ghost use Rattle.trees.specs.Trees.{leaf_with, path_at, kind_at, IsLeaf, split_at, HasNoRoom, IsGrown};
+ghost use Rattle.trees.specs.Trees.{leaf_with, path_at, kind_at, IsLeaf, split_at, HasNoRoom, IsGrownTree};
 
 use crate::fault::SplitFault;
 use clauses::{LARGEST_VARIABLE, Lit};
@@ -55,13 +55,13 @@ pub struct Tree {
 }
 
 impl Model for Tree {
-    ghost use Rattle.trees.specs.Trees.{TreeState, IsGrown};
+    ghost use Rattle.trees.specs.Trees.{TreeState, IsGrownTree};
 
     ghost Value = { TreeState };
 
     ghost view = { λ t. record { variables = t.variables; nodes = t.nodes.items } };
 
-    ghost invariant = { λ t. IsGrown (record { variables = t.variables; nodes = t.nodes.items }) };
+    ghost invariant = { λ t. IsGrownTree (record { variables = t.variables; nodes = t.nodes.items }) };
 }
 
 /// The literals of a leaf below a split of a node with this path.
@@ -158,7 +158,7 @@ impl Tree {
     /// How many variables it is over; they are numbered from 1.
     pub fn variables(&self) -> u32
         ensures same { result ≡ self.now.variables }
-        ensures grown { IsGrown self.now }
+        ensures grown { IsGrownTree self.now }
     {
         self.variables
     }
@@ -195,7 +195,7 @@ impl Tree {
     pub(crate) fn kind_of(&self, node: u32) -> NodeKind
         requires { node < length self.now.nodes }
         ensures same { kind_at self.now.nodes node ≡ Some result }
-        ensures grown { IsGrown self.now }
+        ensures grown { IsGrownTree self.now }
     {
         let node = &self.nodes[node as usize];
         node.kind

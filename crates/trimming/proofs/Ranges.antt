@@ -8,11 +8,11 @@ use Rattle.std.proofs.lemmas.List.{map-append}
 use Rattle.std.proofs.lemmas.Bool.{and_parts, and_from, leb-true, le-leb}
 use Rattle.refutations.specs.declared.tree.Node.{Node}
 use Rattle.refutations.specs.declared.tree.Node.TheVariants.{Split, Leaf}
-use Rattle.refutations.specs.Proofs.{is_number, are_numbers, are_numbered, are_trees, missing_after}
+use Rattle.refutations.specs.Proofs.{is_proof_number, are_numbers, are_numbered, are_trees, missing_after}
 use Rattle.trimming.specs.Needed.{kept, renumber, renumbered_node}
 use Rattle.trimming.proofs.Counting.{renumber_most, renumber_least}
 
-number_renumbered : (clauses : ℕ) (flags : List Bool) (n : ℕ) → IsTrue (is_number n) → IsTrue (is_number (renumber clauses flags n))
+number_renumbered : (clauses : ℕ) (flags : List Bool) (n : ℕ) → IsTrue (is_proof_number n) → IsTrue (is_proof_number (renumber clauses flags n))
 number_renumbered clauses flags n h =
     let parts = and_parts (nat_le 1 n) (nat_le n 2147483647) h in
     let most = leb-true n 2147483647 parts.1 in
@@ -24,17 +24,17 @@ number_renumbered clauses flags n h =
 pub numbers_renumbered : (clauses : ℕ) (flags : List Bool) (numbers : List ℕ) → IsTrue (are_numbers numbers) → IsTrue (are_numbers (map (renumber clauses flags) numbers))
 numbers_renumbered clauses flags [] h = h
 numbers_renumbered clauses flags (n ∷ numbers) h =
-    let parts = and_parts (is_number n) (are_numbers numbers) h in
-    and_from (is_number (renumber clauses flags n)) (are_numbers (map (renumber clauses flags) numbers)) (number_renumbered clauses flags n parts.0) (numbers_renumbered clauses flags numbers parts.1)
+    let parts = and_parts (is_proof_number n) (are_numbers numbers) h in
+    and_from (is_proof_number (renumber clauses flags n)) (are_numbers (map (renumber clauses flags) numbers)) (number_renumbered clauses flags n parts.0) (numbers_renumbered clauses flags numbers parts.1)
 
 pub nodes_renumbered : (clauses : ℕ) (flags : List Bool) (nodes : List Node) → IsTrue (are_numbered nodes) → IsTrue (are_numbered (map (renumbered_node (renumber clauses flags)) nodes))
 nodes_renumbered clauses flags [] h = h
 nodes_renumbered clauses flags (Split v ∷ nodes) h =
-    let parts = and_parts (is_number v) (are_numbered nodes) h in
-    and_from (is_number v) (are_numbered (map (renumbered_node (renumber clauses flags)) nodes)) parts.0 (nodes_renumbered clauses flags nodes parts.1)
+    let parts = and_parts (is_proof_number v) (are_numbered nodes) h in
+    and_from (is_proof_number v) (are_numbered (map (renumbered_node (renumber clauses flags)) nodes)) parts.0 (nodes_renumbered clauses flags nodes parts.1)
 nodes_renumbered clauses flags (Leaf k ∷ nodes) h =
-    let parts = and_parts (is_number k) (are_numbered nodes) h in
-    and_from (is_number (renumber clauses flags k)) (are_numbered (map (renumbered_node (renumber clauses flags)) nodes)) (number_renumbered clauses flags k parts.0) (nodes_renumbered clauses flags nodes parts.1)
+    let parts = and_parts (is_proof_number k) (are_numbered nodes) h in
+    and_from (is_proof_number (renumber clauses flags k)) (are_numbered (map (renumbered_node (renumber clauses flags)) nodes)) (number_renumbered clauses flags k parts.0) (nodes_renumbered clauses flags nodes parts.1)
 
 pub trees_renumbered : (new : ℕ → ℕ) (missing : ℕ) (nodes : List Node) → are_trees missing (map (renumbered_node new) nodes) ≡ are_trees missing nodes
 trees_renumbered new missing [] = refl

@@ -80,18 +80,18 @@ pub record IsFirstUnneeded (clauses : ℕ) (lines : List ProofLine) (nodes : Lis
 -- ---- numbers that name nothing
 
 -- one of so many clauses and lines, which are numbered from 1
-abbrev pub is_named : ℕ → ℕ → Bool
-is_named count number = nat_le 1 number && nat_le number count
+abbrev pub is_clause_or_line : ℕ → ℕ → Bool
+is_clause_or_line count number = nat_le 1 number && nat_le number count
 
 -- each hint names one of so many clauses and lines, or a line of these that stands before its own
 abbrev pub name_earlier : ℕ → List ProofLine → Bool
 name_earlier count [] = true
-name_earlier count (line ∷ lines) = list_all (is_named count) line.hints && name_earlier (count + 1) lines
+name_earlier count (line ∷ lines) = list_all (is_clause_or_line count) line.hints && name_earlier (count + 1) lines
 
 -- the leaf names one of so many clauses and lines
 abbrev pub is_named_leaf : ℕ → Node → Bool
 is_named_leaf count (Split v) = true
-is_named_leaf count (Leaf k) = is_named count k
+is_named_leaf count (Leaf k) = is_clause_or_line count k
 
 -- Each hint names a clause or an earlier line, and each leaf a clause or a line.
 abbrev pub are_named : ℕ → List ProofLine → List Node → Bool

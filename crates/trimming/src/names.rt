@@ -2,19 +2,19 @@
 
 ghost use Rattle.std.specs.Prelude.{◌≡◌, ◌+◌};
 ghost use Rattle.std.specs.List.{list_all};
-ghost use Rattle.trimming.specs.Needed.{is_named, is_named_leaf, name_earlier, are_named};
+ghost use Rattle.trimming.specs.Needed.{is_clause_or_line, is_named_leaf, name_earlier, are_named};
 
 use refutations::{Line, Node};
 
 /// Whether the number is that of one of so many clauses and lines.
 fn is_named(count: usize, number: u32) -> bool
-    ensures { result ≡ is_named count number }
+    ensures { result ≡ is_clause_or_line count number }
 {
     1 <= number && number as usize <= count
 }
 
 fn are_all_named(count: usize, numbers: &[u32]) -> bool
-    ensures { result ≡ list_all (is_named count) numbers.now }
+    ensures { result ≡ list_all (is_clause_or_line count) numbers.now }
 {
     numbers.iter().all(|number| is_named(count, *number))
 }

@@ -5,7 +5,7 @@ use Rattle.spmd_tree.specs.declared.tree.Mode.{Mode}
 use Rattle.spmd_tree.specs.declared.tree.Kind.TheVariants as kind
 use Rattle.unroll.specs.declared.call.Call.{Call}
 use Rattle.unroll.specs.declared.collective.Way.{Way}
-use Rattle.unroll.specs.Groups.{others, before, after}
+use Rattle.unroll.specs.Groups.{others, before, member_after}
 use Rattle.unroll.specs.Collectives.{sends, receives, meet, spread, collect, chain}
 use Rattle.unroll.specs.Apart.{IsApart, CollectivesAreApart}
 
@@ -48,4 +48,4 @@ collectives_are_apart kind.Gather root g size rank w le = collect_apart (nat_eq 
 collectives_are_apart kind.Scatter root g size rank w le = spread_apart (nat_eq rank root) root (others g size rank) w le
 collectives_are_apart kind.AllGather root g size rank w le = meet_apart (nat_eq rank root) root (others g size rank) w le
 collectives_are_apart kind.AllToAll root g size rank w le = meet_apart (nat_eq rank root) root (others g size rank) w le
-collectives_are_apart kind.Scan root g size rank w le = chain_apart (before g rank) (after g rank) w le
+collectives_are_apart kind.Scan root g size rank w le = chain_apart (before g rank) (member_after g rank) w le

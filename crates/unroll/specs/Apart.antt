@@ -6,7 +6,7 @@ use Rattle.unroll.specs.declared.call.Group.{Group}
 use Rattle.unroll.specs.declared.call.Call.{Call}
 use Rattle.unroll.specs.declared.call.Call.TheVariants as call
 use Rattle.unroll.specs.declared.collective.Way.{Way}
-use Rattle.unroll.specs.Collectives.{calls_of}
+use Rattle.unroll.specs.Collectives.{collective_calls}
 
 -- a send, or a receive that names its source and its tag, in a communicator of 128 or more
 abbrev pub IsApart : Call → Type 0
@@ -17,4 +17,4 @@ IsApart _ = ⊥
 -- A collective call is such sends and receives alone. The calls of a text are in communicators to
 -- 127, so none of its receives takes what is sent there, and no wildcard stands there.
 abbrev pub CollectivesAreApart : Type 0
-CollectivesAreApart = (k : Kind) (root : ℕ) (g : Group) (size rank : ℕ) (w : Way) → 128 ≤ w.communicator → AllByRecursion IsApart (calls_of k root g size rank w)
+CollectivesAreApart = (k : Kind) (root : ℕ) (g : Group) (size rank : ℕ) (w : Way) → 128 ≤ w.communicator → AllByRecursion IsApart (collective_calls k root g size rank w)

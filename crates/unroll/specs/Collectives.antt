@@ -15,7 +15,7 @@ use Rattle.unroll.specs.declared.call.Group.{Group}
 use Rattle.unroll.specs.declared.call.Call.{Call}
 use Rattle.unroll.specs.declared.call.Call.TheVariants as call
 use Rattle.unroll.specs.declared.collective.Way.{Way}
-use Rattle.unroll.specs.Groups.{others, before, after}
+use Rattle.unroll.specs.Groups.{others, before, member_after}
 
 abbrev pub number : Kind → ℕ
 number kind.Barrier = 0
@@ -79,13 +79,13 @@ kind_for true k = kind.Barrier
 kind_for false k = k
 
 -- the calls that a collective call stands for, on this rank of so many
-abbrev pub calls_of : Kind → ℕ → Group → ℕ → ℕ → Way → List Call
-calls_of kind.Barrier root g size rank w = meet (nat_eq rank root) root (others g size rank) w
-calls_of kind.Broadcast root g size rank w = spread (nat_eq rank root) root (others g size rank) w
-calls_of kind.Reduce root g size rank w = collect (nat_eq rank root) root (others g size rank) w
-calls_of kind.AllReduce root g size rank w = meet (nat_eq rank root) root (others g size rank) w
-calls_of kind.Gather root g size rank w = collect (nat_eq rank root) root (others g size rank) w
-calls_of kind.Scatter root g size rank w = spread (nat_eq rank root) root (others g size rank) w
-calls_of kind.AllGather root g size rank w = meet (nat_eq rank root) root (others g size rank) w
-calls_of kind.AllToAll root g size rank w = meet (nat_eq rank root) root (others g size rank) w
-calls_of kind.Scan root g size rank w = chain (before g rank) (after g rank) w
+abbrev pub collective_calls : Kind → ℕ → Group → ℕ → ℕ → Way → List Call
+collective_calls kind.Barrier root g size rank w = meet (nat_eq rank root) root (others g size rank) w
+collective_calls kind.Broadcast root g size rank w = spread (nat_eq rank root) root (others g size rank) w
+collective_calls kind.Reduce root g size rank w = collect (nat_eq rank root) root (others g size rank) w
+collective_calls kind.AllReduce root g size rank w = meet (nat_eq rank root) root (others g size rank) w
+collective_calls kind.Gather root g size rank w = collect (nat_eq rank root) root (others g size rank) w
+collective_calls kind.Scatter root g size rank w = spread (nat_eq rank root) root (others g size rank) w
+collective_calls kind.AllGather root g size rank w = meet (nat_eq rank root) root (others g size rank) w
+collective_calls kind.AllToAll root g size rank w = meet (nat_eq rank root) root (others g size rank) w
+collective_calls kind.Scan root g size rank w = chain (before g rank) (member_after g rank) w

@@ -12,9 +12,9 @@ use Rattle.unroll.specs.declared.value.Reason.TheVariants as reason
 use Rattle.unroll.specs.Values.{operate, as_number, as_truth, compares}
 
 -- goes on with what was found, or stops at what is wrong
-abbrev pub on : {A B : Type 0} → Result A Reason → (A → Result B Reason) → Result B Reason
-on (Err e) go = Err e
-on (Ok x) go = go x
+abbrev pub on_found : {A B : Type 0} → Result A Reason → (A → Result B Reason) → Result B Reason
+on_found (Err e) go = Err e
+on_found (Ok x) go = go x
 
 -- where a name's value was looked up
 abbrev pub known : ℕ → Option (Option Value) → Result Value Reason
@@ -27,10 +27,10 @@ truth (Err e) = Err e
 truth (Ok b) = Ok (Truth b)
 
 abbrev pub number_in : Result Value Reason → Result ℤ Reason
-number_in r = on r (λ v. as_number v)
+number_in r = on_found r (λ v. as_number v)
 
 abbrev pub truth_in : Result Value Reason → Result Bool Reason
-truth_in r = on r (λ v. as_truth v)
+truth_in r = on_found r (λ v. as_truth v)
 
 abbrev pub as_condition : Result Value Reason → Result Value Reason
 as_condition r = truth (truth_in r)
@@ -66,21 +66,21 @@ choice (Err e) first second = Err e
 choice (Ok true) first second = first
 choice (Ok false) first second = second
 
-abbrev pub value_of : Expression → ℕ → ℕ → List (Option Value) → Result Value Reason
-value_of (form.Literal n) rank size values = Ok (Number n)
-value_of form.Null rank size values = Ok Null
-value_of form.Rank rank size values = Ok (Number (pos rank))
-value_of form.Size rank size values = Ok (Number (pos size))
-value_of (form.Named name) rank size values = known name (slice_get values name)
-value_of (form.Binary' operator p a q b) rank size values = operated operator (number_in (value_of a rank size values)) (number_in (value_of b rank size values))
-value_of (form.Compare' comparison p a q b) rank size values = compared comparison (value_of a rank size values) (value_of b rank size values)
-value_of (form.Negative' p a) rank size values = operated Minus (Ok (pos 0)) (number_in (value_of a rank size values))
-value_of (form.Grouped' p a) rank size values = value_of a rank size values
-value_of (form.Negation' p a) rank size values = opposed (truth_in (value_of a rank size values))
-value_of (form.Both' p a q b) rank size values = both (truth_in (value_of a rank size values)) (value_of b rank size values)
-value_of (form.Either' p a q b) rank size values = either (truth_in (value_of a rank size values)) (value_of b rank size values)
-value_of (form.Choice' p c q a s b) rank size values = choice (truth_in (value_of c rank size values)) (value_of a rank size values) (value_of b rank size values)
+abbrev pub expression_value : Expression → ℕ → ℕ → List (Option Value) → Result Value Reason
+expression_value (form.Literal n) rank size values = Ok (Number n)
+expression_value form.Null rank size values = Ok Null
+expression_value form.Rank rank size values = Ok (Number (pos rank))
+expression_value form.Size rank size values = Ok (Number (pos size))
+expression_value (form.Named name) rank size values = known name (slice_get values name)
+expression_value (form.Binary' operator p a q b) rank size values = operated operator (number_in (expression_value a rank size values)) (number_in (expression_value b rank size values))
+expression_value (form.Compare' comparison p a q b) rank size values = compared comparison (expression_value a rank size values) (expression_value b rank size values)
+expression_value (form.Negative' p a) rank size values = operated Minus (Ok (pos 0)) (number_in (expression_value a rank size values))
+expression_value (form.Grouped' p a) rank size values = expression_value a rank size values
+expression_value (form.Negation' p a) rank size values = opposed (truth_in (expression_value a rank size values))
+expression_value (form.Both' p a q b) rank size values = both (truth_in (expression_value a rank size values)) (expression_value b rank size values)
+expression_value (form.Either' p a q b) rank size values = either (truth_in (expression_value a rank size values)) (expression_value b rank size values)
+expression_value (form.Choice' p c q a s b) rank size values = choice (truth_in (expression_value c rank size values)) (expression_value a rank size values) (expression_value b rank size values)
 
 -- whether a condition holds
 abbrev pub truth_of : Expression → ℕ → ℕ → List (Option Value) → Result Bool Reason
-truth_of e rank size values = truth_in (value_of e rank size values)
+truth_of e rank size values = truth_in (expression_value e rank size values)

@@ -20,13 +20,13 @@ use Rattle.unroll.specs.declared.arguments.Prepared.{Prepared}
 use Rattle.unroll.specs.declared.arguments.Prepared.TheVariants as given
 use Rattle.unroll.specs.declared.machine.Scope.{Scope}
 use Rattle.unroll.specs.Labels.{is_left_out, without}
-use Rattle.unroll.specs.Groups.{is_member, earlier, root_in}
-use Rattle.unroll.specs.Collectives.{calls_of, kind_for, way_of}
+use Rattle.unroll.specs.Groups.{is_member, earlier_meetings, root_in}
+use Rattle.unroll.specs.Collectives.{collective_calls, kind_for, way_of}
 
 -- How far a text is unrolled: the values of names, the starts that were left out and have not
 -- ended, the collective calls that the rank has made, the calls of all ranks so far in their order,
 -- the turns of loops so far, and the number of the turn that is going on, 0 for none.
-pub record Run : Type 0 where
+pub record TextRun : Type 0 where
   pub values : List (Option Value)
   pub left_out : List LeftOut
   pub met : List Meeting
@@ -36,53 +36,53 @@ pub record Run : Type 0 where
 
 -- What is done leaves a run; or something is wrong, which leaves the run as far as it came.
 pub data Outcome : Type 0 where
-  Done : Run → Outcome
-  Failed : Fault → Run → Outcome
+  Done : TextRun → Outcome
+  Failed : Fault → TextRun → Outcome
 
 -- one thing after another, as long as nothing is wrong
-abbrev pub then_do : Outcome → (Run → Outcome) → Outcome
+abbrev pub then_do : Outcome → (TextRun → Outcome) → Outcome
 then_do (Done run) go = go run
 then_do (Failed fault run) go = Failed fault run
 
-abbrev pub fault_at : Scope → ℕ → Reason → Run → Fault
-fault_at scope line why run = record { rank = scope.rank; line = line; turn = run.turn; reason = why }
+abbrev pub fault_on_line : Scope → ℕ → Reason → TextRun → Fault
+fault_on_line scope line why run = record { rank = scope.rank; line = line; turn = run.turn; reason = why }
 
-abbrev pub failed : Scope → ℕ → Reason → Run → Outcome
-failed scope line why run = Failed (fault_at scope line why run) run
+abbrev pub failed : Scope → ℕ → Reason → TextRun → Outcome
+failed scope line why run = Failed (fault_on_line scope line why run) run
 
 -- goes on with what was evaluated, or fails
-abbrev pub attempt : {A : Type 0} → Scope → ℕ → Run → Result A Reason → (A → Outcome) → Outcome
+abbrev pub attempt : {A : Type 0} → Scope → ℕ → TextRun → Result A Reason → (A → Outcome) → Outcome
 attempt scope line run (Err why) go = failed scope line why run
 attempt scope line run (Ok x) go = go x
 
 -- ---- calls
 
 -- one call more, unless there are as many as may be
-abbrev pub put : Scope → ℕ → Call → Run → Outcome
-put scope line c run =
+abbrev pub call_put : Scope → ℕ → Call → TextRun → Outcome
+call_put scope line c run =
     if nat_lt (length run.calls) scope.most_calls
     then Done (record { values = run.values; left_out = run.left_out; met = run.met; calls = run.calls ++ record { rank = scope.rank; line = line; turn = run.turn; call = c } ∷ []; turns = run.turns; turn = run.turn })
     else failed scope line reason.TooManyCalls run
 
 -- a start is refused where one of its name was left out and has not ended
-abbrev pub guarded : Scope → ℕ → Bool → Label → Run → Outcome
+abbrev pub guarded : Scope → ℕ → Bool → Label → TextRun → Outcome
 guarded scope line handle label run = if is_left_out run.left_out handle label then failed scope line (reason.StillOpen label.name) run else Done run
 
-abbrev pub guarded_request : Scope → ℕ → Option Label → Run → Outcome
+abbrev pub guarded_request : Scope → ℕ → Option Label → TextRun → Outcome
 guarded_request scope line None run = Done run
 guarded_request scope line (Some label) run = guarded scope line false label run
 
 -- a start is left out
-abbrev pub left : ℕ → Bool → Label → Run → Outcome
+abbrev pub left : ℕ → Bool → Label → TextRun → Outcome
 left line handle label run =
     Done (record { values = run.values; left_out = run.left_out ++ record { handle = handle; label = label; line = line; turn = run.turn } ∷ []; met = run.met; calls = run.calls; turns = run.turns; turn = run.turn })
 
-abbrev pub left_request : ℕ → Option Label → Run → Outcome
+abbrev pub left_request : ℕ → Option Label → TextRun → Outcome
 left_request line None run = Done run
 left_request line (Some label) run = left line false label run
 
 -- the end of a start that was left out is left out too
-abbrev pub forgotten : Bool → Label → Run → Run
+abbrev pub forgotten : Bool → Label → TextRun → TextRun
 forgotten handle label run = record { values = run.values; left_out = without run.left_out handle label; met = run.met; calls = run.calls; turns = run.turns; turn = run.turn }
 
 -- with a peer the call is made, and with null it is left out
@@ -91,67 +91,67 @@ with_peer None out made = out
 with_peer (Some peer) out made = made peer
 
 -- a receive on a handle whose probe was left out is left out too, and its request with it
-abbrev pub matched : Scope → ℕ → Option Label → Label → Run → Outcome
+abbrev pub matched : Scope → ℕ → Option Label → Label → TextRun → Outcome
 matched scope line request handle run =
     if is_left_out run.left_out true handle
     then left_request line request (forgotten true handle run)
-    else put scope line (call.MatchedReceive request handle) run
+    else call_put scope line (call.MatchedReceive request handle) run
 
-abbrev pub waited : Scope → ℕ → Label → Run → Outcome
+abbrev pub waited : Scope → ℕ → Label → TextRun → Outcome
 waited scope line request run =
     if is_left_out run.left_out false request
     then Done (forgotten false request run)
-    else put scope line (call.Wait request) run
+    else call_put scope line (call.Wait request) run
 
 -- a joined send and receive with null on one side is the other side alone; with null on both sides
 -- it is no call
-abbrev pub joined : Option ℕ → ℕ → Option (Option ℕ) → Option ℕ → ℕ → Option Call
-joined None send_tag None receive_tag c = None
-joined None send_tag (Some source) receive_tag c = Some (call.Receive None source receive_tag c)
-joined (Some destination) send_tag None receive_tag c = Some (call.Send Standard None destination send_tag c)
-joined (Some destination) send_tag (Some source) receive_tag c = Some (call.SendReceive destination send_tag source receive_tag c)
+abbrev pub joined_call : Option ℕ → ℕ → Option (Option ℕ) → Option ℕ → ℕ → Option Call
+joined_call None send_tag None receive_tag c = None
+joined_call None send_tag (Some source) receive_tag c = Some (call.Receive None source receive_tag c)
+joined_call (Some destination) send_tag None receive_tag c = Some (call.Send Standard None destination send_tag c)
+joined_call (Some destination) send_tag (Some source) receive_tag c = Some (call.SendReceive destination send_tag source receive_tag c)
 
-abbrev pub put_optional : Scope → ℕ → Option Call → Run → Outcome
+abbrev pub put_optional : Scope → ℕ → Option Call → TextRun → Outcome
 put_optional scope line None run = Done run
-put_optional scope line (Some c) run = put scope line c run
+put_optional scope line (Some c) run = call_put scope line c run
 
 -- these calls, one after another
-abbrev pub put_each : List Call → Scope → ℕ → Run → Outcome
+abbrev pub put_each : List Call → Scope → ℕ → TextRun → Outcome
 put_each [] scope line run = Done run
-put_each (c ∷ others) scope line run = then_do (put scope line c run) (λ r. put_each others scope line r)
+put_each (c ∷ others) scope line run = then_do (call_put scope line c run) (λ r. put_each others scope line r)
 
 -- one collective call more, with this communicator and group
-abbrev pub noted : ℕ → Group → Run → Run
-noted c g run = record { values = run.values; left_out = run.left_out; met = run.met ++ record { communicator = c; group = g } ∷ []; calls = run.calls; turns = run.turns; turn = run.turn }
+abbrev pub meeting_noted : ℕ → Group → TextRun → TextRun
+meeting_noted c g run = record { values = run.values; left_out = run.left_out; met = run.met ++ record { communicator = c; group = g } ∷ []; calls = run.calls; turns = run.turns; turn = run.turn }
 
 -- a collective call is the calls that it stands for; who makes it, and its root, are of its group
-abbrev pub collective_run : Scope → ℕ → Kind → ℕ → Group → ℕ → Run → Outcome
+abbrev pub collective_run : Scope → ℕ → Kind → ℕ → Group → ℕ → TextRun → Outcome
 collective_run scope line kind root g c run =
     if is_member g scope.rank
     then if is_member g root
-    then if nat_le 67108864 (earlier run.met c g)
+    then if nat_le 67108864 (earlier_meetings run.met c g)
     then failed scope line reason.TooManyCollectives run
-    else put_each (calls_of (kind_for scope.barriers kind) root g scope.size scope.rank (way_of kind (earlier run.met c g) c)) scope line (noted c g run)
+    else put_each (collective_calls (kind_for scope.barriers kind) root g scope.size scope.rank (way_of kind (earlier_meetings run.met c g) c)) scope line (meeting_noted c g run)
     else failed scope line (reason.NotInGroup root) run
     else failed scope line (reason.NotInGroup scope.rank) run
 
 -- a send, with its peer or with null
-abbrev pub sent : Scope → ℕ → Mode → Option Label → Option ℕ → ℕ → ℕ → Run → Outcome
+abbrev pub sent : Scope → ℕ → Mode → Option Label → Option ℕ → ℕ → ℕ → TextRun → Outcome
 sent scope line mode request destination tag c run =
-    then_do (guarded_request scope line request run) (λ r. with_peer destination (left_request line request r) (λ d. put scope line (call.Send mode request d tag c) r))
+    then_do (guarded_request scope line request run) (λ r. with_peer destination (left_request line request r) (λ d. call_put scope line (call.Send mode request d tag c) r))
 
-abbrev pub received : Scope → ℕ → Option Label → Option (Option ℕ) → Option ℕ → ℕ → Run → Outcome
+abbrev pub received : Scope → ℕ → Option Label → Option (Option ℕ) → Option ℕ → ℕ → TextRun → Outcome
 received scope line request source tag c run =
-    then_do (guarded_request scope line request run) (λ r. with_peer source (left_request line request r) (λ s. put scope line (call.Receive request s tag c) r))
+    then_do (guarded_request scope line request run) (λ r. with_peer source (left_request line request r) (λ s. call_put scope line (call.Receive request s tag c) r))
 
-abbrev pub matched_probed : Scope → ℕ → Label → Option (Option ℕ) → Option ℕ → ℕ → Run → Outcome
+abbrev pub matched_probed : Scope → ℕ → Label → Option (Option ℕ) → Option ℕ → ℕ → TextRun → Outcome
 matched_probed scope line handle source tag c run =
-    then_do (guarded scope line true handle run) (λ r. with_peer source (left line true handle r) (λ s. put scope line (call.MatchedProbe handle s tag c) r))
+    then_do (guarded scope line true handle run) (λ r. with_peer source (left line true handle r) (λ s. call_put scope line (call.MatchedProbe handle s tag c) r))
 
-abbrev pub probed : Scope → ℕ → Option (Option ℕ) → Option ℕ → ℕ → Run → Outcome
-probed scope line source tag c run = with_peer source (Done run) (λ s. put scope line (call.Probe s tag c) run)
+abbrev pub probed : Scope → ℕ → Option (Option ℕ) → Option ℕ → ℕ → TextRun → Outcome
+probed scope line source tag c run = with_peer source (Done run) (λ s. call_put scope line (call.Probe s tag c) run)
 
-abbrev pub perform : Scope → ℕ → Prepared → Run → Outcome
+abbrev pub perform : Scope → ℕ → Prepared → TextRun → Outcome
 perform scope line (given.Send mode request destination tag c) run = sent scope line mode request destination tag c run
 perform scope line (given.Receive request source tag c) run = received scope line request source tag c run
 perform scope line (given.MatchedProbe handle source tag c) run = matched_probed scope line handle source tag c run
@@ -159,21 +159,21 @@ perform scope line (given.Probe source tag c) run = probed scope line source tag
 perform scope line (given.Collective kind root g c) run = collective_run scope line kind (root_in g root) g c run
 perform scope line (given.MatchedReceive request handle) run = then_do (guarded_request scope line request run) (λ r. matched scope line request handle r)
 perform scope line (given.Wait request) run = waited scope line request run
-perform scope line (given.SendReceive destination send_tag source receive_tag c) run = put_optional scope line (joined destination send_tag source receive_tag c) run
+perform scope line (given.SendReceive destination send_tag source receive_tag c) run = put_optional scope line (joined_call destination send_tag source receive_tag c) run
 
 -- the first request of a `waitall`, or a further one
 abbrev pub wait_call : Bool → Label → Call
 wait_call true request = call.WaitAll request
 wait_call false request = call.WaitAlso request
 
-abbrev pub wait_part : Scope → ℕ → Bool → Label → Run → Outcome
+abbrev pub wait_part : Scope → ℕ → Bool → Label → TextRun → Outcome
 wait_part scope line first request run =
     if is_left_out run.left_out false request
     then Done (forgotten false request run)
-    else put scope line (wait_call first request) run
+    else call_put scope line (wait_call first request) run
 
 -- the next request is the first, where this one was the first and is left out
-abbrev pub still_first : Bool → Label → Run → Bool
+abbrev pub still_first : Bool → Label → TextRun → Bool
 still_first first request run = if is_left_out run.left_out false request then first else false
 
 -- ---- names and loops
@@ -181,16 +181,16 @@ still_first first request run = if is_left_out run.left_out false request then f
 abbrev pub set_value : List (Option Value) → ℕ → Option Value → List (Option Value)
 set_value values name v = if nat_lt name (length values) then slice_set values name v else values
 
-abbrev pub assigned : ℕ → Value → Run → Run
+abbrev pub assigned : ℕ → Value → TextRun → TextRun
 assigned name v run = record { values = set_value run.values name (Some v); left_out = run.left_out; met = run.met; calls = run.calls; turns = run.turns; turn = run.turn }
 
 -- a turn begins, unless there were as many as may be: the loop's variable has this value
-abbrev pub begun : Scope → ℕ → ℕ → ℕ → ℤ → Run → Outcome
-begun scope line name outer value run =
+abbrev pub turn_begun : Scope → ℕ → ℕ → ℕ → ℤ → TextRun → Outcome
+turn_begun scope line name outer value run =
     if nat_lt (length run.turns) scope.most_turns
     then Done (record { values = set_value run.values name (Some (Number value)); left_out = run.left_out; met = run.met; calls = run.calls; turns = run.turns ++ record { outer = outer; name = name; value = value } ∷ []; turn = length run.turns + 1 })
     else failed scope line reason.TooManyTurns run
 
 -- a loop ends: its variable has no value any more
-abbrev pub finished : ℕ → ℕ → Run → Run
-finished name outer run = record { values = set_value run.values name None; left_out = run.left_out; met = run.met; calls = run.calls; turns = run.turns; turn = outer }
+abbrev pub loop_finished : ℕ → ℕ → TextRun → TextRun
+loop_finished name outer run = record { values = set_value run.values name None; left_out = run.left_out; met = run.met; calls = run.calls; turns = run.turns; turn = outer }

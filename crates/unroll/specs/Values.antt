@@ -11,18 +11,18 @@ use Rattle.unroll.specs.declared.value.Reason.{Reason}
 use Rattle.unroll.specs.declared.value.Reason.TheVariants as reason
 
 -- a number of 64 bits
-abbrev pub fits : ℤ → Bool
-fits (pos n) = nat_lt n (2 ^ 63)
-fits (negsuc n) = nat_lt n (2 ^ 63)
+abbrev pub fits_number : ℤ → Bool
+fits_number (pos n) = nat_lt n (2 ^ 63)
+fits_number (negsuc n) = nat_lt n (2 ^ 63)
 
 -- the number, unless it is beyond 64 bits
 abbrev pub checked : ℤ → Result Value Reason
-checked z = if fits z then Ok (Number z) else Err reason.Overflow
+checked z = if fits_number z then Ok (Number z) else Err reason.Overflow
 
 -- a number that was found, or one beyond 64 bits
-abbrev pub told : Option ℤ → Result Value Reason
-told None = Err reason.Overflow
-told (Some z) = Ok (Number z)
+abbrev pub number_or_overflow : Option ℤ → Result Value Reason
+number_or_overflow None = Err reason.Overflow
+number_or_overflow (Some z) = Ok (Number z)
 
 -- the number, where it is from 0 on and below the limit
 abbrev pub below : ℤ → ℕ → Option ℕ
@@ -80,11 +80,11 @@ as_truth (Number n) = Err reason.Kind
 as_truth Null = Err reason.Kind
 
 -- numbers are the same or not, and null is the same as null alone
-abbrev pub same_number : ℤ → ℤ → Bool
-same_number a b = if int_le a b then int_le b a else false
+abbrev pub same_whole_number : ℤ → ℤ → Bool
+same_whole_number a b = if int_le a b then int_le b a else false
 
 abbrev pub alike : Value → Value → Result Bool Reason
-alike (Number x) (Number y) = Ok (same_number x y)
+alike (Number x) (Number y) = Ok (same_whole_number x y)
 alike (Number x) Null = Ok false
 alike (Number x) (Truth t) = Err reason.Kind
 alike Null (Number y) = Ok false
@@ -92,9 +92,9 @@ alike Null Null = Ok true
 alike Null (Truth t) = Err reason.Kind
 alike (Truth t) b = Err reason.Kind
 
-abbrev pub opposite : Result Bool Reason → Result Bool Reason
-opposite (Ok b) = Ok (not b)
-opposite (Err e) = Err e
+abbrev pub opposite_truth : Result Bool Reason → Result Bool Reason
+opposite_truth (Ok b) = Ok (not b)
+opposite_truth (Err e) = Err e
 
 abbrev pub tested : (ℤ → ℤ → Bool) → Result ℤ Reason → Result ℤ Reason → Result Bool Reason
 tested test (Err e) b = Err e
@@ -106,7 +106,7 @@ ordered test a b = tested test (as_number a) (as_number b)
 
 abbrev pub compares : Comparison → Value → Value → Result Bool Reason
 compares Same a b = alike a b
-compares Other a b = opposite (alike a b)
+compares Other a b = opposite_truth (alike a b)
 compares Below a b = ordered (λ x y. int_lt x y) a b
 compares UpTo a b = ordered (λ x y. int_le x y) a b
 compares Above a b = ordered (λ x y. int_lt y x) a b

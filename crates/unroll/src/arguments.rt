@@ -1,7 +1,7 @@
 //! The arguments of a call, evaluated from left to right.
 
 ghost use Rattle.std.specs.Prelude.{◌≡◌};
-ghost use Rattle.unroll.specs.Arguments.{collected, exchanged, matched, matched_received, message_of, pattern_of, prepared, probed, received, sent, waited};
+ghost use Rattle.unroll.specs.Arguments.{collected, exchanged, matched, matched_received, scoped_message, scoped_pattern, prepared, probed, received, sent, waited};
 
 use crate::call::{Group, Label};
 use crate::parts::{
@@ -87,7 +87,7 @@ fn matching(
     size: u32,
     values: &[Option<Value>],
 ) -> Result<Pattern, Reason>
-    ensures { result ≡ pattern_of from.now wanted.now on.now rank size values.now }
+    ensures { result ≡ scoped_pattern from.now wanted.now on.now rank size values.now }
 {
     let source = source(from, rank, size, values)?;
     let tag = optional_tag(wanted, rank, size, values)?;
@@ -107,7 +107,7 @@ fn outgoing(
     size: u32,
     values: &[Option<Value>],
 ) -> Result<Message, Reason>
-    ensures { result ≡ message_of to.now given.now rank size values.now }
+    ensures { result ≡ scoped_message to.now given.now rank size values.now }
 {
     let destination = peer(to, rank, size, values)?;
     let tag = tag(given, rank, size, values)?;

@@ -1,14 +1,14 @@
 //! Operators on numbers of 64 bits. Where the result is beyond them, that is told.
 
 ghost use Rattle.std.specs.Prelude.{◌≡◌, ◌≤◌, ◌<◌, IfSome, ◌^◌, pos, ◌+ℤ◌, ◌-ℤ◌, ◌*ℤ◌, int_lt, int_le};
-ghost use Rattle.unroll.specs.Values.{checked, told, operate, compares, power, as_number, as_truth, alike, ordered, below};
+ghost use Rattle.unroll.specs.Values.{checked, number_or_overflow, operate, compares, power, as_number, as_truth, alike, ordered, below};
 
 use crate::value::{Reason, Value};
 use spmd_tree::{Comparison, Operator};
 
 /// The number, where it is one of 64 bits.
 fn told(number: Option<i64>) -> Result<Value, Reason>
-    ensures { result ≡ told number }
+    ensures { result ≡ number_or_overflow number }
 {
     match number {
         Some(number) => Ok(Value::Number(number)),

@@ -2,8 +2,8 @@
 
 ghost use Rattle.std.specs.Prelude.{◌≡◌};
 ghost use Rattle.unroll.specs.Collectives.{kind_for};
-ghost use Rattle.unroll.specs.parts.Runs.{Agrees, seen, faulty};
-ghost use Rattle.unroll.specs.Runs.{put, put_each, collective_run};
+ghost use Rattle.unroll.specs.parts.Runs.{HasOutcome, seen_run, faulty};
+ghost use Rattle.unroll.specs.Runs.{call_put, put_each, collective_run};
 
 use crate::call::{Call, Group, Meeting};
 use crate::collective::{calls_of, way_of};
@@ -14,7 +14,7 @@ use spmd_tree::Kind;
 
 /// Makes these calls, one after another.
 fn put_each(machine: &mut Machine, scope: Scope, line: u32, calls: &[Call]) -> Result<(), Stop>
-    ensures { Agrees result (put_each calls.now scope line (seen machine.old)) (seen machine.new) }
+    ensures { HasOutcome result (put_each calls.now scope line (seen_run machine.old)) (seen_run machine.new) }
 {
     for call in calls {
         match put(machine, scope, line, *call) {
@@ -42,7 +42,7 @@ pub(crate) fn perform_collective(
     group: Group,
     communicator: u32,
 ) -> Result<(), Stop>
-    ensures { Agrees result (collective_run scope line kind root group communicator (seen machine.old)) (seen machine.new) }
+    ensures { HasOutcome result (collective_run scope line kind root group communicator (seen_run machine.old)) (seen_run machine.new) }
 {
     if !is_member(group, scope.rank) {
         return Err(faulty(

@@ -4,8 +4,8 @@
 //! holds each rank until all have come where none is. `specs/Collectives.antt` defines the forms.
 
 ghost use Rattle.std.specs.Prelude.{◌≡◌, ◌≤◌, ◌<◌, ◌++◌, IfOk, OnOk};
-ghost use Rattle.unroll.specs.Groups.{others, earlier, before, after};
-ghost use Rattle.unroll.specs.Collectives.{number, way_of, send, receive, sends, receives, meet, spread, collect, chain, calls_of};
+ghost use Rattle.unroll.specs.Groups.{others, earlier_meetings, before, member_after};
+ghost use Rattle.unroll.specs.Collectives.{number, way_of, send, receive, sends, receives, meet, spread, collect, chain, collective_calls};
 
 use crate::call::{Call, Group};
 use crate::members::{after, before, earlier, others};
@@ -42,8 +42,8 @@ fn number(kind: Kind) -> u32
 /// How the messages are known of a collective call before which so many were made with its
 /// communicator and group: by tags below 2^31.
 pub(crate) fn way_of(kind: Kind, earlier: u32, communicator: u32) -> Way
-    requires { earlier < 67108864 }
-    ensures { result ≡ way_of kind earlier communicator }
+    requires { earlier_meetings < 67108864 }
+    ensures { result ≡ way_of kind earlier_meetings communicator }
 {
     let first = 32 * earlier + 2 * number(kind);
     Way {
@@ -197,7 +197,7 @@ fn chain(
     after: Option<u32>,
     way: Way,
 ) -> Result<Vec<Call>, AllocError>
-    ensures { IfOk result (λ calls. calls.items ≡ chain before after way) }
+    ensures { IfOk result (λ calls. calls.items ≡ chain before member_after way) }
 {
     let mut calls = Vec::new(alloc);
     match before {
@@ -236,7 +236,7 @@ pub(crate) fn calls_of(
     rank: u32,
     way: Way,
 ) -> Result<Vec<Call>, AllocError>
-    ensures { IfOk result (λ calls. calls.items ≡ calls_of kind root group size rank way) }
+    ensures { IfOk result (λ calls. calls.items ≡ collective_calls kind root group size rank way) }
 {
     let others = others(alloc, group, size, rank)?;
     match kind {

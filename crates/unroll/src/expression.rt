@@ -1,7 +1,7 @@
 //! The value of an expression, or what is wrong with it first.
 
 ghost use Rattle.std.specs.Prelude.{◌≡◌, slice_get};
-ghost use Rattle.unroll.specs.Expressions.{as_condition, compared, known, number_in, operated, opposed, truth, truth_in, value_of};
+ghost use Rattle.unroll.specs.Expressions.{as_condition, compared, known, number_in, operated, opposed, truth, truth_in, expression_value};
 
 use crate::arithmetic::{as_number, as_truth, compares, operate};
 use crate::value::{Reason, Value};
@@ -111,7 +111,7 @@ pub fn evaluate(
     size: u32,
     values: &[Option<Value>],
 ) -> Result<Value, Reason>
-    ensures { result ≡ value_of expression.now rank size values.now }
+    ensures { result ≡ expression_value expression.now rank size values.now }
 {
     match expression {
         Expression::Literal(number) => Ok(Value::Number(*number)),

@@ -2,8 +2,8 @@
 
 ghost use Rattle.std.specs.Prelude.{◌≡◌};
 ghost use Rattle.unroll.specs.Labels.{is_left_out, without};
-ghost use Rattle.unroll.specs.parts.Runs.{Agrees, seen, faulty};
-ghost use Rattle.unroll.specs.Runs.{put, guarded, guarded_request, left, left_request, assigned, begun, finished, set_value};
+ghost use Rattle.unroll.specs.parts.Runs.{HasOutcome, seen_run, faulty};
+ghost use Rattle.unroll.specs.Runs.{call_put, guarded, guarded_request, left, left_request, assigned, turn_begun, loop_finished, set_value};
 
 use crate::call::{Call, Fault, Label, LeftOut, Meeting, Placed, Turn, is_for};
 use crate::value::{Reason, Value};
@@ -65,7 +65,7 @@ impl<T: Drop> From<AllocFailed<T>> for Stop {
 
 /// What is wrong here.
 pub(crate) fn faulty(machine: &Machine, scope: Scope, line: u32, reason: Reason) -> Stop
-    ensures { result ≡ faulty scope line reason (seen machine.now) }
+    ensures { result ≡ faulty scope line reason (seen_run machine.now) }
 {
     Stop::Faulty(Fault {
         rank: scope.rank,
@@ -77,7 +77,7 @@ pub(crate) fn faulty(machine: &Machine, scope: Scope, line: u32, reason: Reason)
 
 /// Makes one call more, unless there are as many as may be.
 pub(crate) fn put(machine: &mut Machine, scope: Scope, line: u32, call: Call) -> Result<(), Stop>
-    ensures { Agrees result (put scope line call (seen machine.old)) (seen machine.new) }
+    ensures { HasOutcome result (call_put scope line call (seen_run machine.old)) (seen_run machine.new) }
 {
     if machine.calls.len() as u64 >= scope.most_calls {
         return Err(faulty(machine, scope, line, Reason::TooManyCalls));
@@ -113,7 +113,7 @@ pub(crate) fn guard(
     handle: bool,
     label: Label,
 ) -> Result<(), Stop>
-    ensures { Agrees result (guarded scope line handle label (seen machine.now)) (seen machine.now) }
+    ensures { HasOutcome result (guarded scope line handle label (seen_run machine.now)) (seen_run machine.now) }
 {
     if is_left_out(&machine.left_out, handle, label) {
         return Err(faulty(machine, scope, line, Reason::StillOpen { name: label.name }));
@@ -128,7 +128,7 @@ pub(crate) fn guard_request(
     line: u32,
     request: Option<Label>,
 ) -> Result<(), Stop>
-    ensures { Agrees result (guarded_request scope line request (seen machine.now)) (seen machine.now) }
+    ensures { HasOutcome result (guarded_request scope line request (seen_run machine.now)) (seen_run machine.now) }
 {
     match request {
         None => Ok(()),
@@ -143,7 +143,7 @@ pub(crate) fn leave(
     handle: bool,
     label: Label,
 ) -> Result<(), Stop>
-    ensures { Agrees result (left line handle label (seen machine.old)) (seen machine.new) }
+    ensures { HasOutcome result (left line handle label (seen_run machine.old)) (seen_run machine.new) }
 {
     machine.left_out.push(LeftOut {
         handle,
@@ -160,7 +160,7 @@ pub(crate) fn leave_request(
     line: u32,
     request: Option<Label>,
 ) -> Result<(), Stop>
-    ensures { Agrees result (left_request line request (seen machine.old)) (seen machine.new) }
+    ensures { HasOutcome result (left_request line request (seen_run machine.old)) (seen_run machine.new) }
 {
     match request {
         None => Ok(()),
@@ -179,7 +179,7 @@ fn set_value(values: &mut Vec<Option<Value>>, name: u32, value: Option<Value>)
 
 /// Gives the name this value.
 pub(crate) fn assign(machine: &mut Machine, name: u32, value: Value)
-    ensures { seen machine.new ≡ assigned name value (seen machine.old) }
+    ensures { seen_run machine.new ≡ assigned name value (seen_run machine.old) }
 {
     set_value(&mut machine.values, name, Some(value));
 }
@@ -193,7 +193,7 @@ pub(crate) fn begin(
     outer: u64,
     value: i64,
 ) -> Result<(), Stop>
-    ensures { Agrees result (begun scope line name outer value (seen machine.old)) (seen machine.new) }
+    ensures { HasOutcome result (turn_begun scope line name outer value (seen_run machine.old)) (seen_run machine.new) }
 {
     if machine.turns.len() as u64 >= scope.most_turns {
         return Err(faulty(machine, scope, line, Reason::TooManyTurns));
@@ -207,7 +207,7 @@ pub(crate) fn begin(
 
 /// Ends a loop: its variable has no value any more.
 pub(crate) fn finish(machine: &mut Machine, name: u32, outer: u64)
-    ensures { seen machine.new ≡ finished name outer (seen machine.old) }
+    ensures { seen_run machine.new ≡ loop_finished name outer (seen_run machine.old) }
 {
     machine.turn = outer;
     set_value(&mut machine.values, name, None);

@@ -2,7 +2,7 @@
 
 ghost use Rattle.std.specs.Prelude.{◌≡◌, ◌<◌, IfOk};
 ghost use Rattle.std.specs.List.{filter};
-ghost use Rattle.unroll.specs.Groups.{is_member, is_other, others, same_group, is_of, earlier, root_in, before, after};
+ghost use Rattle.unroll.specs.Groups.{is_member, is_other_member, others, same_group, is_of, earlier_meetings, root_in, before, member_after};
 
 use crate::call::{Group, Meeting};
 use std::alloc::{AllocError, Global};
@@ -25,7 +25,7 @@ pub(crate) fn is_member(group: Group, rank: u32) -> bool
 
 /// Whether another rank than this one is of the group.
 fn is_other(group: Group, rank: u32, other: u32) -> bool
-    ensures { result ≡ is_other group rank other }
+    ensures { result ≡ is_other_member group rank other }
 {
     is_member(group, other) && other != rank
 }
@@ -60,7 +60,7 @@ fn is_of(meeting: Meeting, communicator: u32, group: Group) -> bool
 
 /// How many of the collective calls were made with this communicator and group.
 pub(crate) fn earlier(met: &[Meeting], communicator: u32, group: Group) -> usize
-    ensures { result ≡ earlier met.now communicator group }
+    ensures { result ≡ earlier_meetings met.now communicator group }
 {
     met.iter()
         .filter(|meeting| is_of(**meeting, communicator, group))
@@ -89,7 +89,7 @@ pub(crate) fn before(group: Group, rank: u32) -> Option<u32>
 
 /// The rank of the group after this one, which is of it.
 pub(crate) fn after(group: Group, rank: u32) -> Option<u32>
-    ensures { result ≡ after group rank }
+    ensures { result ≡ member_after group rank }
 {
     if group.last < rank {
         return None;

@@ -1,7 +1,7 @@
 //! The parts of a call's arguments: numbers, tags, peers, labels and groups.
 
 ghost use Rattle.std.specs.Prelude.{◌≡◌};
-ghost use Rattle.unroll.specs.Arguments.{number_of, found, some, tag_of, optional_tag, communicator_of, peered, peer_of, source_of, index_of, label_of, optional_label, rank_of, root_of, stepped, step_of, group_of, collective_communicator};
+ghost use Rattle.unroll.specs.Arguments.{scoped_number, found, some, tag_of, optional_tag, scoped_communicator, peered, peer_of, scoped_source, index_of, label_of, optional_label, scoped_rank, root_of, stepped, scoped_step, group_of, collective_communicator};
 
 use crate::arithmetic::below;
 use crate::call::{Group, Label};
@@ -16,7 +16,7 @@ pub(crate) fn number(
     size: u32,
     values: &[Option<Value>],
 ) -> Result<i64, Reason>
-    ensures { result ≡ number_of expression.now rank size values.now }
+    ensures { result ≡ scoped_number expression.now rank size values.now }
 {
     number_in(evaluate(expression, rank, size, values))
 }
@@ -78,7 +78,7 @@ pub(crate) fn communicator(
     size: u32,
     values: &[Option<Value>],
 ) -> Result<u32, Reason>
-    ensures { result ≡ communicator_of expression.now rank size values.now }
+    ensures { result ≡ scoped_communicator expression.now rank size values.now }
 {
     match expression {
         None => Ok(0),
@@ -125,7 +125,7 @@ pub(crate) fn source(
     size: u32,
     values: &[Option<Value>],
 ) -> Result<Option<Option<u32>>, Reason>
-    ensures { result ≡ source_of expression.now rank size values.now }
+    ensures { result ≡ scoped_source expression.now rank size values.now }
 {
     match expression {
         None => Ok(Some(None)),
@@ -198,7 +198,7 @@ fn member(
     size: u32,
     values: &[Option<Value>],
 ) -> Result<u32, Reason>
-    ensures { result ≡ rank_of expression.now rank size values.now }
+    ensures { result ≡ scoped_rank expression.now rank size values.now }
 {
     match number(expression, rank, size, values) {
         Err(reason) => Err(reason),
@@ -243,7 +243,7 @@ fn step(
     size: u32,
     values: &[Option<Value>],
 ) -> Result<u32, Reason>
-    ensures { result ≡ step_of expression.now rank size values.now }
+    ensures { result ≡ scoped_step expression.now rank size values.now }
 {
     match expression {
         None => Ok(1),

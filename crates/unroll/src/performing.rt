@@ -1,8 +1,8 @@
 //! What one call does: it is made, or left out.
 
 ghost use Rattle.std.specs.Prelude.{◌≡◌};
-ghost use Rattle.unroll.specs.parts.Runs.{Agrees, seen};
-ghost use Rattle.unroll.specs.Runs.{put, matched, sent, received, matched_probed, probed, joined, put_optional, perform};
+ghost use Rattle.unroll.specs.parts.Runs.{HasOutcome, seen_run};
+ghost use Rattle.unroll.specs.Runs.{call_put, matched, sent, received, matched_probed, probed, joined_call, put_optional, perform};
 
 use crate::arguments::Prepared;
 use crate::call::{Call, Label};
@@ -23,7 +23,7 @@ fn perform_send(
     tag: u32,
     communicator: u32,
 ) -> Result<(), Stop>
-    ensures { Agrees result (sent scope line mode request destination tag communicator (seen machine.old)) (seen machine.new) }
+    ensures { HasOutcome result (sent scope line mode request destination tag communicator (seen_run machine.old)) (seen_run machine.new) }
 {
     guard_request(machine, scope, line, request)?;
     let Some(destination) = destination else {
@@ -49,7 +49,7 @@ fn perform_receive(
     tag: Option<u32>,
     communicator: u32,
 ) -> Result<(), Stop>
-    ensures { Agrees result (received scope line request source tag communicator (seen machine.old)) (seen machine.new) }
+    ensures { HasOutcome result (received scope line request source tag communicator (seen_run machine.old)) (seen_run machine.new) }
 {
     guard_request(machine, scope, line, request)?;
     let Some(source) = source else {
@@ -74,7 +74,7 @@ fn perform_matched_probe(
     tag: Option<u32>,
     communicator: u32,
 ) -> Result<(), Stop>
-    ensures { Agrees result (matched_probed scope line handle source tag communicator (seen machine.old)) (seen machine.new) }
+    ensures { HasOutcome result (matched_probed scope line handle source tag communicator (seen_run machine.old)) (seen_run machine.new) }
 {
     guard(machine, scope, line, true, handle)?;
     let Some(source) = source else {
@@ -98,7 +98,7 @@ fn perform_probe(
     tag: Option<u32>,
     communicator: u32,
 ) -> Result<(), Stop>
-    ensures { Agrees result (probed scope line source tag communicator (seen machine.old)) (seen machine.new) }
+    ensures { HasOutcome result (probed scope line source tag communicator (seen_run machine.old)) (seen_run machine.new) }
 {
     let Some(source) = source else {
         return Ok(());
@@ -120,7 +120,7 @@ fn joined(
     receive_tag: Option<u32>,
     communicator: u32,
 ) -> Option<Call>
-    ensures { result ≡ joined destination send_tag source receive_tag communicator }
+    ensures { result ≡ joined_call destination send_tag source receive_tag communicator }
 {
     match destination {
         None => match source {
@@ -158,7 +158,7 @@ fn put_optional(
     line: u32,
     call: Option<Call>,
 ) -> Result<(), Stop>
-    ensures { Agrees result (put_optional scope line call (seen machine.old)) (seen machine.new) }
+    ensures { HasOutcome result (put_optional scope line call (seen_run machine.old)) (seen_run machine.new) }
 {
     match call {
         None => Ok(()),
@@ -173,7 +173,7 @@ pub(crate) fn perform(
     line: u32,
     call: Prepared,
 ) -> Result<(), Stop>
-    ensures { Agrees result (perform scope line call (seen machine.old)) (seen machine.new) }
+    ensures { HasOutcome result (perform scope line call (seen_run machine.old)) (seen_run machine.new) }
 {
     match call {
         Prepared::Send {

@@ -2,9 +2,9 @@
 
 ghost use Rattle.std.specs.Prelude.{◌≡◌, IfOk, slice_get};
 ghost use Rattle.unroll.specs.Expressions.{truth_of};
-ghost use Rattle.unroll.specs.parts.Runs.{Agrees, seen};
-ghost use Rattle.unroll.specs.Runs.{begun};
-ghost use Rattle.unroll.specs.Statements.{is_over, advanced, span_of, has_value, parameter, assignment, called, waiting, next_first, wait_each, meaning};
+ghost use Rattle.unroll.specs.parts.Runs.{HasOutcome, seen_run};
+ghost use Rattle.unroll.specs.Runs.{turn_begun};
+ghost use Rattle.unroll.specs.Statements.{is_over, advanced, span_of, has_value, parameter, assignment, called, waiting_for_request, next_first, wait_each, meaning};
 
 use crate::arguments::prepare;
 use crate::expression::{evaluate, truth_in};
@@ -78,7 +78,7 @@ fn begin_turn(
     outer: u64,
     span: Span,
 ) -> Result<(), Stop>
-    ensures { Agrees result (begun scope line name outer span.value (seen machine.old)) (seen machine.new) }
+    ensures { HasOutcome result (turn_begun scope line name outer span.value (seen_run machine.old)) (seen_run machine.new) }
 {
     begin(machine, scope, line, name, outer, span.value)
 }
@@ -104,7 +104,7 @@ fn assignment(
     name: u32,
     value: &Expression,
 ) -> Result<(), Stop>
-    ensures { Agrees result (assignment scope line name value.now (seen machine.old)) (seen machine.new) }
+    ensures { HasOutcome result (assignment scope line name value.now (seen_run machine.old)) (seen_run machine.new) }
 {
     match evaluate(value, scope.rank, scope.size, &machine.values) {
         Err(reason) => Err(faulty(machine, scope, line, reason)),
@@ -123,7 +123,7 @@ fn parameter(
     name: u32,
     otherwise: &Option<Expression>,
 ) -> Result<(), Stop>
-    ensures { Agrees result (parameter scope line name otherwise.now (seen machine.old)) (seen machine.new) }
+    ensures { HasOutcome result (parameter scope line name otherwise.now (seen_run machine.old)) (seen_run machine.new) }
 {
     if has_value(&machine.values, name) {
         return Ok(());
@@ -136,7 +136,7 @@ fn parameter(
 
 /// Makes the call, or leaves it out, or tells the first of its arguments that is wrong.
 fn call(machine: &mut Machine, scope: Scope, line: u32, arguments: &Arguments) -> Result<(), Stop>
-    ensures { Agrees result (called scope line arguments.now (seen machine.old)) (seen machine.new) }
+    ensures { HasOutcome result (called scope line arguments.now (seen_run machine.old)) (seen_run machine.new) }
 {
     match prepare(arguments, scope.rank, scope.size, &machine.values) {
         Err(reason) => Err(faulty(machine, scope, line, reason)),
@@ -152,8 +152,8 @@ fn wait_one(
     first: bool,
     form: &LabelForm,
 ) -> Result<bool, Stop>
-    ensures run { Agrees result (waiting scope line first form.now (seen machine.old)) (seen machine.new) }
-    ensures first { IfOk result (λ next. next ≡ next_first scope first form.now (seen machine.old)) }
+    ensures run { HasOutcome result (waiting_for_request scope line first form.now (seen_run machine.old)) (seen_run machine.new) }
+    ensures first { IfOk result (λ next. next ≡ next_first scope first form.now (seen_run machine.old)) }
 {
     match label(form, scope.rank, scope.size, &machine.values) {
         Err(reason) => Err(faulty(machine, scope, line, reason)),
@@ -169,7 +169,7 @@ fn wait_each(
     first: bool,
     requests: &Labels,
 ) -> Result<(), Stop>
-    ensures { Agrees result (wait_each requests.now scope line first (seen machine.old)) (seen machine.new) }
+    ensures { HasOutcome result (wait_each requests.now scope line first (seen_run machine.old)) (seen_run machine.new) }
 {
     match requests {
         Labels::Last(request) => {
@@ -186,7 +186,7 @@ fn wait_each(
 /// Does what the statement says. A loop evaluates its ends once, and counts its turns with those of
 /// all other loops and ranks.
 pub(crate) fn run(machine: &mut Machine, scope: Scope, statement: &Statement) -> Result<(), Stop>
-    ensures { Agrees result (meaning statement.now scope (seen machine.old)) (seen machine.new) }
+    ensures { HasOutcome result (meaning statement.now scope (seen_run machine.old)) (seen_run machine.new) }
 {
     match statement {
         Statement::Nothing => Ok(()),

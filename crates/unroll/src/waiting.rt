@@ -1,8 +1,8 @@
 //! Waits, and receives on handles: the ends of what was started.
 
 ghost use Rattle.std.specs.Prelude.{◌≡◌, IfOk};
-ghost use Rattle.unroll.specs.parts.Runs.{Agrees, seen};
-ghost use Rattle.unroll.specs.Runs.{put, matched, waited, wait_part, still_first};
+ghost use Rattle.unroll.specs.parts.Runs.{HasOutcome, seen_run};
+ghost use Rattle.unroll.specs.Runs.{call_put, matched, waited, wait_part, still_first};
 
 use crate::call::{Call, Label};
 use crate::machine::{Machine, Scope, Stop, forget, is_left_out, leave_request, put};
@@ -16,7 +16,7 @@ pub(crate) fn perform_matched(
     request: Option<Label>,
     handle: Label,
 ) -> Result<(), Stop>
-    ensures { Agrees result (matched scope line request handle (seen machine.old)) (seen machine.new) }
+    ensures { HasOutcome result (matched scope line request handle (seen_run machine.old)) (seen_run machine.new) }
 {
     if is_left_out(&machine.left_out, true, handle) {
         forget(&mut machine.left_out, true, handle);
@@ -37,7 +37,7 @@ pub(crate) fn perform_wait(
     line: u32,
     request: Label,
 ) -> Result<(), Stop>
-    ensures { Agrees result (waited scope line request (seen machine.old)) (seen machine.new) }
+    ensures { HasOutcome result (waited scope line request (seen_run machine.old)) (seen_run machine.new) }
 {
     if is_left_out(&machine.left_out, false, request) {
         forget(&mut machine.left_out, false, request);
@@ -55,8 +55,8 @@ pub(crate) fn wait_part(
     first: bool,
     request: Label,
 ) -> Result<bool, Stop>
-    ensures run { Agrees result (wait_part scope line first request (seen machine.old)) (seen machine.new) }
-    ensures first { IfOk result (λ next. next ≡ still_first first request (seen machine.old)) }
+    ensures run { HasOutcome result (wait_part scope line first request (seen_run machine.old)) (seen_run machine.new) }
+    ensures first { IfOk result (λ next. next ≡ still_first first request (seen_run machine.old)) }
 {
     if is_left_out(&machine.left_out, false, request) {
         forget(&mut machine.left_out, false, request);

@@ -1,9 +1,9 @@
 //! The whole text, for all ranks, one after another.
 
 ghost use Rattle.std.specs.Prelude.{◌≡◌, IfOk, IfErr};
-ghost use Rattle.unroll.specs.parts.Runs.{Agrees, seen};
+ghost use Rattle.unroll.specs.parts.Runs.{HasOutcome, seen_run};
 ghost use Rattle.unroll.specs.Statements.{rank_run, text_run};
-ghost use Rattle.unroll.specs.Whole.{IsUnrolled, IsRefused, refused};
+ghost use Rattle.unroll.specs.Whole.{IsUnrolled, IsFailure, refused};
 
 use crate::call::{Fault, Placed, Turn};
 use crate::machine::{Machine, Scope, Stop};
@@ -45,7 +45,7 @@ fn run_rank(
     program: &Statement,
     settings: &[Option<Value>],
 ) -> Result<(), Stop>
-    ensures { Agrees result (rank_run program.now settings.now scope (seen machine.old)) (seen machine.new) }
+    ensures { HasOutcome result (rank_run program.now settings.now scope (seen_run machine.old)) (seen_run machine.new) }
 {
     machine.values.clear();
     machine.values.extend_from_slice(settings)?;
@@ -90,7 +90,7 @@ pub fn unroll(
     limits: Limits,
 ) -> Result<Unrolled, Refusal>
     ensures ok { IfOk result (λ unrolled. IsUnrolled unrolled (text_run program.now settings.now size barriers limits.calls limits.turns)) }
-    ensures err { IfErr result (λ refusal. IsRefused refusal (text_run program.now settings.now size barriers limits.calls limits.turns)) }
+    ensures err { IfErr result (λ refusal. IsFailure refusal (text_run program.now settings.now size barriers limits.calls limits.turns)) }
 {
     let mut machine = Machine {
         alloc,

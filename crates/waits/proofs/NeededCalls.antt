@@ -6,7 +6,7 @@ use Rattle.callorder.specs.declared.calls.Call.{Call}
 use Rattle.callorder.specs.Calls.{operation_of, holds_of}
 use Rattle.callorder.specs.ProgramRules.{IsProgramWithin}
 use Rattle.callorder.specs.Programs.{MpiProgram, call_at, is_of_rank}
-use Rattle.semantics.specs.Configurations.{is_open}
+use Rattle.semantics.specs.Configurations.{is_open_call}
 use Rattle.semantics.specs.Machine.{Configuration, is_issued, is_issued_call, is_matched, partner_of}
 use Rattle.run_laws.proofs.Descent.{no_open_pair_where_stuck}
 use Rattle.waits.specs.declared.fates.Fate.TheVariants.{Open}
@@ -14,7 +14,7 @@ use Rattle.waits.specs.Waiting.{WaitsIn, operation_of_call, operation_at, fate_f
 use Rattle.waits.specs.Laws.{FitCallsAreNotBothOpen, NeededCallsAreNotOpen}
 
 matched_open : (issued matched : Bool) → (issued && not matched) ≡ true → matched ≡ true → ⊥
-matched_open issued matched is_open matches = true≢false (sym matches ∙ not-true matched (and_parts issued (not matched) is_open).1)
+matched_open issued matched is_open_call matches = true≢false (sym matches ∙ not-true matched (and_parts issued (not matched) is_open_call).1)
 
 pub fit_calls_are_not_both_open : FitCallsAreNotBothOpen
 fit_calls_are_not_both_open p m send finder stuck fit send_open finder_open =
@@ -61,8 +61,8 @@ pub needed_calls_are_not_open : NeededCallsAreNotOpen
 needed_calls_are_not_open l p m rank call needed is stuck waits unmatched fit fate =
     let o = operation_of_call p call in
     let free : not (is_matched m o) ≡ true = ap (λ (x : Option ℕ). not (is_some x)) unmatched in
-    let here : is_open p m o ≡ true = and_from _ _ (operation_is_issued l p m rank call is waits) free in
-    let there : is_open p m needed ≡ true = open_is (partner_of m needed) (is_issued p m needed) fate in
+    let here : is_open_call p m o ≡ true = and_from _ _ (operation_is_issued l p m rank call is waits) free in
+    let there : is_open_call p m needed ≡ true = open_is (partner_of m needed) (is_issued p m needed) fate in
     elim (or_cases _ _ fit) [
       | inl sends ↦ fit_calls_are_not_both_open p m o needed stuck (and_parts _ _ sends).0 here there
       | inr takes ↦ fit_calls_are_not_both_open p m needed o stuck takes there here

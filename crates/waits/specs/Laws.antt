@@ -4,7 +4,7 @@ use Rattle.std.specs.Prelude.{◌≡◌, ◌≢◌, ℕ, ◌<◌, false, IsTrue,
 use Rattle.calltext.specs.declared.limits.Limits.{Limits}
 use Rattle.callorder.specs.ProgramRules.{IsProgramWithin}
 use Rattle.callorder.specs.Programs.{MpiProgram, are_fit}
-use Rattle.semantics.specs.Configurations.{IsConfigurationOf, is_open}
+use Rattle.semantics.specs.Configurations.{IsConfigurationOf, is_open_call}
 use Rattle.semantics.specs.Machine.{Configuration, IsRun, IsStuck, opening, after_all, is_issued, is_rank_finished, partner_of}
 use Rattle.semantics.specs.declared.state.Step.{Step}
 use Rattle.waits.specs.declared.fates.Fate.TheVariants.{Open}
@@ -33,8 +33,8 @@ NoRankIsReadyWhereStuck =
 -- issued, the send unmatched and the other without a message.
 abbrev pub FitCallsAreNotBothOpen : Type 0
 FitCallsAreNotBothOpen =
-    (p : MpiProgram) (m : Configuration) (send finder : ℕ) → IsStuck p m → IsTrue (are_fit p send finder) → IsTrue (is_open p m send)
-    → IsTrue (is_open p m finder) → ⊥
+    (p : MpiProgram) (m : Configuration) (send finder : ℕ) → IsStuck p m → IsTrue (are_fit p send finder) → IsTrue (is_open_call p m send)
+    → IsTrue (is_open_call p m finder) → ⊥
 
 -- Where a rank of a stuck configuration waits for an operation that has no partner, each call that
 -- fits with it is taken or not issued.

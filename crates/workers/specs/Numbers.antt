@@ -8,5 +8,5 @@ capped_place clauses place = min (clauses + place + 1) 4294967295
 
 -- the place in the log, from 0, of the line with this number, after so many clauses; 0 for the
 -- number of a clause
-abbrev pub place_of : ℕ → ℕ → ℕ
-place_of clauses number = number - clauses - 1
+abbrev pub log_place_of : ℕ → ℕ → ℕ
+log_place_of clauses number = number - clauses - 1

@@ -2,7 +2,7 @@
 
 ghost use Rattle.std.specs.Prelude.{◌≡◌};
 ghost use Rattle.pool.specs.parts.Batches.{capped_hint};
-ghost use Rattle.workers.specs.Numbers.{capped_place, place_of};
+ghost use Rattle.workers.specs.Numbers.{capped_place, log_place_of};
 
 use refutations::Hint;
 
@@ -29,7 +29,7 @@ pub(crate) fn line_number(clauses: usize, place: usize) -> u32
 /// The place in the log, from 0, of the line that has this number, after so many clauses; 0 for one
 /// of the clauses.
 pub(crate) fn line_place(clauses: usize, number: u32) -> usize
-    ensures { result ≡ place_of clauses number }
+    ensures { result ≡ log_place_of clauses number }
 {
     (number as usize).saturating_sub(clauses).saturating_sub(1)
 }

@@ -1,7 +1,7 @@
 //! Why a worker can't go on.
 
 ghost use Rattle.std.specs.Prelude.{◌≡◌};
-ghost use Rattle.workers.specs.Reasons.{IsReason};
+ghost use Rattle.workers.specs.Reasons.{IsStopReason};
 ghost use Rattle.pool.specs.declared.why.Why.TheVariants as why;
 ghost use Rattle.pool.specs.declared.entry.PublishFault.TheVariants as publish;
 ghost use Rattle.pool.specs.declared.entry.FetchFault.TheVariants as fetch;
@@ -45,7 +45,7 @@ impl From<AllocError> for Stop {
 }
 
 impl From<PublishFault> for Stop {
-    ghost from_gives = { λ fault stop. IsReason (fault ≡ publish.Memory) (fault ≡ publish.Full) stop.why };
+    ghost from_gives = { λ fault stop. IsStopReason (fault ≡ publish.Memory) (fault ≡ publish.Full) stop.why };
 
     fn from(fault: PublishFault) -> Stop {
         stop_for!(fault, PublishFault::Memory => Why::Memory, PublishFault::Full => Why::Full)
@@ -53,7 +53,7 @@ impl From<PublishFault> for Stop {
 }
 
 impl From<FetchFault> for Stop {
-    ghost from_gives = { λ fault stop. IsReason (fault ≡ fetch.Memory) ⊥ stop.why };
+    ghost from_gives = { λ fault stop. IsStopReason (fault ≡ fetch.Memory) ⊥ stop.why };
 
     fn from(fault: FetchFault) -> Stop {
         stop_for!(fault, FetchFault::Memory => Why::Memory)
@@ -61,7 +61,7 @@ impl From<FetchFault> for Stop {
 }
 
 impl From<CloseFault> for Stop {
-    ghost from_gives = { λ fault stop. IsReason (fault ≡ close.Memory) ⊥ stop.why };
+    ghost from_gives = { λ fault stop. IsStopReason (fault ≡ close.Memory) ⊥ stop.why };
 
     fn from(fault: CloseFault) -> Stop {
         stop_for!(fault, CloseFault::Memory => Why::Memory)
@@ -69,7 +69,7 @@ impl From<CloseFault> for Stop {
 }
 
 impl From<SplitFault> for Stop {
-    ghost from_gives = { λ fault stop. IsReason (fault ≡ split.Memory) ⊥ stop.why };
+    ghost from_gives = { λ fault stop. IsStopReason (fault ≡ split.Memory) ⊥ stop.why };
 
     fn from(fault: SplitFault) -> Stop {
         stop_for!(fault, SplitFault::Memory => Why::Memory)
@@ -77,7 +77,7 @@ impl From<SplitFault> for Stop {
 }
 
 impl From<FoundFault> for Stop {
-    ghost from_gives = { λ fault stop. IsReason (fault ≡ found.Memory) ⊥ stop.why };
+    ghost from_gives = { λ fault stop. IsStopReason (fault ≡ found.Memory) ⊥ stop.why };
 
     fn from(fault: FoundFault) -> Stop {
         stop_for!(fault, FoundFault::Memory => Why::Memory)
@@ -85,7 +85,7 @@ impl From<FoundFault> for Stop {
 }
 
 impl From<PathFault> for Stop {
-    ghost from_gives = { λ fault stop. IsReason (fault ≡ path.Memory) ⊥ stop.why };
+    ghost from_gives = { λ fault stop. IsStopReason (fault ≡ path.Memory) ⊥ stop.why };
 
     fn from(fault: PathFault) -> Stop {
         stop_for!(fault, PathFault::Memory => Why::Memory)
@@ -93,7 +93,7 @@ impl From<PathFault> for Stop {
 }
 
 impl From<SolveFault> for Stop {
-    ghost from_gives = { λ fault stop. IsReason (fault ≡ solve.Memory) ⊥ stop.why };
+    ghost from_gives = { λ fault stop. IsStopReason (fault ≡ solve.Memory) ⊥ stop.why };
 
     fn from(fault: SolveFault) -> Stop {
         stop_for!(fault, SolveFault::Memory => Why::Memory)
@@ -101,7 +101,7 @@ impl From<SolveFault> for Stop {
 }
 
 impl From<ExtractFault> for Stop {
-    ghost from_gives = { λ fault stop. IsReason (fault ≡ extract_faults.Memory) ⊥ stop.why };
+    ghost from_gives = { λ fault stop. IsStopReason (fault ≡ extract_faults.Memory) ⊥ stop.why };
 
     fn from(fault: ExtractFault) -> Stop {
         stop_for!(fault, ExtractFault::Memory => Why::Memory)

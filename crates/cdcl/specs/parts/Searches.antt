@@ -1,7 +1,7 @@
 -- How a search may end.
 use Rattle.std.specs.Prelude.{ℕ, ◌≡◌, List, IsTrue}
 use Rattle.std.specs.List.{list_all}
-use Rattle.clauses.specs.Clauses.{Literal, Conjunction, holds, satisfies, value_of}
+use Rattle.clauses.specs.Clauses.{Literal, Conjunction, makes_true, satisfies, value_of}
 use Rattle.cdcl.specs.declared.search.Ending.{Ending}
 use Rattle.cdcl.specs.declared.search.Ending.TheVariants.{Closed, Model, Budget, Memory}
 use Rattle.cdcl.specs.declared.search.Step.{Step}
@@ -22,16 +22,16 @@ IfEnded P (Last ending) = P ending
 IfEnded P (Ended ending) = P ending
 
 -- where the budget ended it, as much as the budget was counted
-abbrev pub IsCounted : ℕ → ℕ → Ending → Type 0
-IsCounted budget conflicts (Closed _) = Unit {0}
-IsCounted budget conflicts (Model _) = Unit {0}
-IsCounted budget conflicts Budget = conflicts ≡ budget
-IsCounted budget conflicts Memory = Unit {0}
+abbrev pub IsBudgetSpent : ℕ → ℕ → Ending → Type 0
+IsBudgetSpent budget conflicts (Closed _) = Unit {0}
+IsBudgetSpent budget conflicts (Model _) = Unit {0}
+IsBudgetSpent budget conflicts Budget = conflicts ≡ budget
+IsBudgetSpent budget conflicts Memory = Unit {0}
 
 -- where it ended by an assignment, this satisfies the formula and the cube
 abbrev pub IsRight : Conjunction → List Literal → Ending → Type 0
 IsRight formula cube (Closed _) = Unit {0}
 IsRight formula cube (Model values) =
-    IsTrue (satisfies (value_of values) formula.clauses) × IsTrue (list_all (holds (value_of values)) cube)
+    IsTrue (satisfies (value_of values) formula.clauses) × IsTrue (list_all (makes_true (value_of values)) cube)
 IsRight formula cube Budget = Unit {0}
 IsRight formula cube Memory = Unit {0}

@@ -13,7 +13,7 @@ use Rattle.charts.specs.declared.placing.Placed.{Placed}
 use Rattle.charts.specs.declared.placing.Shared.{Shared}
 use Rattle.charts.specs.declared.placing.Row.{Row}
 use Rattle.charts.specs.declared.placing.Columns.{Columns}
-use Rattle.charts.specs.Columns.{AreInOrder, column_of, wait_line}
+use Rattle.charts.specs.Columns.{ArePlacedInOrder, column_of, wait_line}
 
 abbrev pub empty_row : Row
 empty_row = record { free = 0; waits = None }
@@ -53,14 +53,14 @@ abbrev pub raised : Row → ℕ → Row
 raised row column = record { free = if nat_lt column row.free then row.free else column + 1; waits = row.waits }
 
 -- the row of the call's rank is raised, and no other
-pub record IsRaised (p : MpiProgram) (c column : ℕ) (old new : List Row) : Type 0 where
+pub record HasRaisedRow (p : MpiProgram) (c column : ℕ) (old new : List Row) : Type 0 where
   pub call : Call
   pub is_call : call_at p c ≡ Some call
   pub is_new : new ≡ slice_set old call.rank (raised (row_at old call.rank) column)
 
 -- The column is left of the row's first free one, and of that of the waits that were issued last,
 -- or it is theirs, and the call is one of them.
-pub record IsIssuedBefore (p : MpiProgram) (calls : List Label) (row : Row) (c column : ℕ) : Type 0 where
+pub record IsIssuedBeforeInRow (p : MpiProgram) (calls : List Label) (row : Row) (c column : ℕ) : Type 0 where
   pub free : column < row.free
   pub waits : (shared : Shared) → row.waits ≡ Some shared → (column < shared.column) ⊎ ((column ≡ shared.column) × (wait_line p calls c ≡ Some shared.line))
 
@@ -69,7 +69,7 @@ abbrev pub IsPast : MpiProgram → List Row → ℕ → ℕ → Type 0
 IsPast p rows c column = (call : Call) → call_at p c ≡ Some call → column < (row_at rows call.rank).free
 
 abbrev pub AreIssuedBefore : MpiProgram → List Label → List Row → ℕ → ℕ → Type 0
-AreIssuedBefore p calls rows c column = (call : Call) → call_at p c ≡ Some call → IsIssuedBefore p calls (row_at rows call.rank) c column
+AreIssuedBefore p calls rows c column = (call : Call) → call_at p c ≡ Some call → IsIssuedBeforeInRow p calls (row_at rows call.rank) c column
 
 -- what rows and issues tell of a step in a column
 abbrev pub IsKnown : MpiProgram → List Label → List Row → List ℕ → ℕ → Act → Type 0
@@ -81,14 +81,14 @@ abbrev pub IsKnownStep : MpiProgram → List Label → List Row → List ℕ →
 IsKnownStep p calls rows issues step = IsKnown p calls rows issues step.column step.act
 
 -- waits share a column that is not free
-abbrev pub IsRow : Row → Type 0
-IsRow row = (shared : Shared) → row.waits ≡ Some shared → shared.column < row.free
+abbrev pub SharesNoFreeColumn : Row → Type 0
+SharesNoFreeColumn row = (shared : Shared) → row.waits ≡ Some shared → shared.column < row.free
 
 -- the step is that a call finds the message of a send
-abbrev pub IsFind : ℕ → ℕ → Act → Type 0
-IsFind send finder (Issue c b) = ⊥
-IsFind send finder (Match s t) = (s ≡ send) × (t ≡ finder)
-IsFind send finder (See s f) = (s ≡ send) × (f ≡ finder)
+abbrev pub IsFindAct : ℕ → ℕ → Act → Type 0
+IsFindAct send finder (Issue c b) = ⊥
+IsFindAct send finder (Match s t) = (s ≡ send) × (t ≡ finder)
+IsFindAct send finder (See s f) = (s ≡ send) × (f ≡ finder)
 
 -- The steps so far stand in so many columns; rows and issues, of which there are as many as ranks
 -- and calls, are known.
@@ -96,11 +96,11 @@ pub record ArePlaced (p : MpiProgram) (calls : List Label) (rows : List Row) (is
   pub program : IsProgramWithin long p
   pub all_rows : length rows ≡ p.ranks
   pub all_issues : length issues ≡ length p.calls
-  pub each_row : (rank : ℕ) → IsRow (row_at rows rank)
+  pub each_row : (rank : ℕ) → SharesNoFreeColumn (row_at rows rank)
   pub known : All (IsKnownStep p calls rows issues) steps
   pub issued : (c : ℕ) → slice_index issues c ≡ column_of steps c
   pub within : All (λ (step : Placed). step.column < count) steps
-  pub order : AllPairs (AreInOrder p calls) steps
+  pub order : AllPairs (ArePlacedInOrder p calls) steps
 
 abbrev pub ArePlacedIn : MpiProgram → List Label → Columns → Type 0
 ArePlacedIn p calls columns = ArePlaced p calls columns.rows.items columns.issues.items columns.count columns.steps.items

@@ -74,8 +74,8 @@ IsRaised numbering finder old new =
 
 -- the new row knows no more than the old one and what is told, where the rows tell no more than a
 -- table
-abbrev pub Adds : Numbering → List (Vec ℕ) → (Table → ℕ → Bool) → List ℕ → List ℕ → Type 0
-Adds numbering rows tells old new =
+abbrev pub AddsToRow : Numbering → List (Vec ℕ) → (Table → ℕ → Bool) → List ℕ → List ℕ → Type 0
+AddsToRow numbering rows tells old new =
     (knows : Table) (known : ℕ → Bool) → AreRows numbering knows rows → IsRow numbering known old → ((f : ℕ) → IsTrue (tells knows f) → IsTrue (known f)) → IsRow numbering known new
 
 -- the block's name of each call is told by a list, and is its own place behind the list's end

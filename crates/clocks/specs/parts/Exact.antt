@@ -33,13 +33,13 @@ abbrev pub IsUnorderedBy : MpiProgram → Configuration → ℕ → ℕ → Type
 IsUnorderedBy p e c finder = (knows : Table) → IsJustified p e knows → knows c finder ≡ false
 
 -- the second table knows what the first one does
-abbrev pub IsWithin : Table → Table → Type 0
-IsWithin knows more = (c f : ℕ) → IsTrue (knows c f) → IsTrue (more c f)
+abbrev pub KnowsNoMore : Table → Table → Type 0
+KnowsNoMore knows more = (c f : ℕ) → IsTrue (knows c f) → IsTrue (more c f)
 
 -- a justified table knows what this one does, and shows what is to be shown
 pub record Extends (p : MpiProgram) (e : Configuration) (knows : Table) (Shows : Table → Type 0) : Type 0 where
   pub more : Table
-  pub within : IsWithin knows more
+  pub within : KnowsNoMore knows more
   pub justified : IsJustified p e more
   pub shows : Shows more
 

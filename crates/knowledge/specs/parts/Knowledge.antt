@@ -20,5 +20,5 @@ abbrev pub CoversJustified : MpiProgram → Configuration → ℕ → List Bool 
 CoversJustified p e finder known = (knows : Table) → IsJustified p e knows → Covers finder known knows
 
 -- the entry at the call, where it is true, follows from the column
-abbrev pub IsTold : MpiProgram → Configuration → ℕ → List Bool → ℕ → Type 0
-IsTold p e finder known c = IsTrue (entry_at known c) → IsTrue (tells_issue p e (column_table finder known) c finder)
+abbrev pub FollowsFromColumn : MpiProgram → Configuration → ℕ → List Bool → ℕ → Type 0
+FollowsFromColumn p e finder known c = IsTrue (entry_at known c) → IsTrue (tells_issue p e (column_table finder known) c finder)

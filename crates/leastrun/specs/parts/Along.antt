@@ -3,7 +3,7 @@ use Rattle.std.specs.Prelude.{◌≡◌, ℕ, ◌<◌, ◌≤◌, true, List, So
 use Rattle.callorder.specs.declared.calls.Call.{Call}
 use Rattle.callorder.specs.Programs.{MpiProgram, call_at, are_fit}
 use Rattle.semantics.specs.declared.state.Step.{Step}
-use Rattle.semantics.specs.Configurations.{IsConfigurationOf, is_open}
+use Rattle.semantics.specs.Configurations.{IsConfigurationOf, is_open_call}
 use Rattle.semantics.specs.Machine.{Configuration, IsRun, opening, after_all}
 use Rattle.leastrun.specs.declared.tables.Tables.{Tables}
 use Rattle.leastrun.specs.parts.Queues.{IsGrown}
@@ -17,8 +17,8 @@ pub record IsReached (p : MpiProgram) (steps : List Step) (m : Configuration) : 
 
 -- all open calls, rising, and no other
 pub record AreOpenCalls (p : MpiProgram) (m : Configuration) (calls : List ℕ) : Type 0 where
-  pub all : (c : ℕ) → is_open p m c ≡ true → (i : ℕ) × (slice_get calls i ≡ Some c)
-  pub are : (i c : ℕ) → slice_get calls i ≡ Some c → is_open p m c ≡ true
+  pub all : (c : ℕ) → is_open_call p m c ≡ true → (i : ℕ) × (slice_get calls i ≡ Some c)
+  pub are : (i c : ℕ) → slice_get calls i ≡ Some c → is_open_call p m c ≡ true
   pub rise : (i j c d : ℕ) → i < j → slice_get calls i ≡ Some c → slice_get calls j ≡ Some d → c ≤ d
 
 -- the call is no send that fits one of the calls

@@ -5,7 +5,7 @@ use Rattle.callorder.specs.declared.calls.Call.{Call}
 use Rattle.callorder.specs.Programs.{MpiProgram, call_at, are_fit, are_of_one_rank, is_probe}
 use Rattle.semantics.specs.declared.state.Step.{Step}
 use Rattle.semantics.specs.declared.state.Step.TheVariants.{Issue, Match, See}
-use Rattle.semantics.specs.Configurations.{is_open}
+use Rattle.semantics.specs.Configurations.{is_open_call}
 use Rattle.semantics.specs.Machine.{Configuration, IsEnabled, is_issued, can_issue}
 use Rattle.run_laws.specs.Laws.{IsOpenPair}
 use Rattle.run_laws.specs.Places.{find_step}
@@ -34,14 +34,14 @@ pub record AreInOrder (p : MpiProgram) (m : Configuration) (rows : Rows) : Type 
 -- of the program has, a finder in the row of its own.
 pub record IsKept (p : MpiProgram) (fresh : Option ℕ) (m : Configuration) (t : Tables) : Type 0 where
   pub all_forms : HasForms p t.forms.items
-  pub sent : (c : ℕ) (call : Call) → is_open p m c ≡ true → (fresh ≡ Some c → ⊥) → call_at p c ≡ Some call → IsSendIn t.forms.items t.sends call c
-  pub sought : (c : ℕ) (call : Call) → is_open p m c ≡ true → (fresh ≡ Some c → ⊥) → call_at p c ≡ Some call → IsFinderIn t.finders call c
+  pub sent : (c : ℕ) (call : Call) → is_open_call p m c ≡ true → (fresh ≡ Some c → ⊥) → call_at p c ≡ Some call → IsSendIn t.forms.items t.sends call c
+  pub sought : (c : ℕ) (call : Call) → is_open_call p m c ≡ true → (fresh ≡ Some c → ⊥) → call_at p c ≡ Some call → IsFinderIn t.finders call c
   pub send_order : AreInOrder p m t.sends
   pub finder_order : AreInOrder p m t.finders
 
 -- the other call is open and fits this one, as its send or as its finder
 abbrev pub is_mate : MpiProgram → Configuration → ℕ → ℕ → Bool
-is_mate p m c other = is_open p m other && (are_fit p c other || are_fit p other c)
+is_mate p m c other = is_open_call p m other && (are_fit p c other || are_fit p other c)
 
 -- the first mate of the call in the row
 pub record IsFirstMate (p : MpiProgram) (m : Configuration) (entries : List ℕ) (c other : ℕ) : Type 0 where
@@ -73,11 +73,11 @@ pub record IsLeastMate (p : MpiProgram) (m : Configuration) (c other : ℕ) : Ty
 
 -- no open finder is one that the call fits
 abbrev pub NoFinder : MpiProgram → Configuration → ℕ → Type 0
-NoFinder p m c = (y : ℕ) → is_open p m y ≡ true → are_fit p c y ≡ true → ⊥
+NoFinder p m c = (y : ℕ) → is_open_call p m y ≡ true → are_fit p c y ≡ true → ⊥
 
 -- no open send fits the call
 abbrev pub NoSend : MpiProgram → Configuration → ℕ → Type 0
-NoSend p m c = (y : ℕ) → is_open p m y ≡ true → are_fit p y c ≡ true → ⊥
+NoSend p m c = (y : ℕ) → is_open_call p m y ≡ true → are_fit p y c ≡ true → ⊥
 
 abbrev pub NoMate : MpiProgram → Configuration → ℕ → Type 0
 NoMate p m c = (y : ℕ) → is_mate p m c y ≡ true → ⊥

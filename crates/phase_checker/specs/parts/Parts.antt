@@ -6,7 +6,7 @@ use Rattle.phases.specs.Rests.{IsFront, IsRest, behind}
 use Rattle.phase_checker.specs.declared.phase.Phase.{Phase}
 use Rattle.phase_checker.specs.declared.reason.NotJoined.{NotJoined}
 use Rattle.phase_checker.specs.declared.reason.NotJoined.TheVariants as joins
-use Rattle.phase_checker.specs.Dealing.{ComesTo, IsAt, IsEarly, IsWrong, KeepsToItself}
+use Rattle.phase_checker.specs.Dealing.{ComesTo, IsAt, IsEarly, IsWrongAtPlace, KeepsToItself}
 
 -- the first place of the order for whose phase a later one may send too early, if there is one
 abbrev pub IsFirstEarly : List Phase → List ℕ → Option ℕ → Type 0
@@ -42,4 +42,4 @@ pub record IsFirstWrong (phases : List Phase) (order : List ℕ) (p : MpiProgram
   pub q : MpiProgram
   pub place : ℕ
   pub before : ComesTo phases order place p q
-  pub wrong : IsWrong phases order place q why
+  pub wrong : IsWrongAtPlace phases order place q why

@@ -24,9 +24,9 @@ abbrev pub is_sent : Loose → Call → Bool
 is_sent key call = is_message_of key call.rank (message_of call.kind)
 
 -- the last place at which what the key stands for is sent, or 0
-abbrev pub place_of : Senders → Loose → ℕ
-place_of senders key = unwrap_or (hash.get is_same senders.places key) 0
+abbrev pub place_sent : Senders → Loose → ℕ
+place_sent senders key = unwrap_or (hash.get is_same senders.places key) 0
 
 -- what passes the test is sent at this place too
-abbrev pub IsRaised : (Loose → Bool) → ℕ → Senders → Senders → Type 0
-IsRaised test place old new = (key : Loose) → place_of new key ≡ (if test key then max (place_of old key) place else place_of old key)
+abbrev pub IsRaisedToPlace : (Loose → Bool) → ℕ → Senders → Senders → Type 0
+IsRaisedToPlace test place old new = (key : Loose) → place_sent new key ≡ (if test key then max (place_sent old key) place else place_sent old key)

@@ -22,5 +22,5 @@ first_fault (Ok u ∷ answers) = first_fault answers
 first_fault (Err fault ∷ answers) = Err fault
 
 -- want of memory where any piece met it, else the first fault
-abbrev pub joined : List Answer → Answer
-joined answers = if list_any is_memory answers then Err Memory else first_fault answers
+abbrev pub joined_answers : List Answer → Answer
+joined_answers answers = if list_any is_memory answers then Err Memory else first_fault answers

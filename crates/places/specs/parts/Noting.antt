@@ -20,8 +20,8 @@ abbrev pub HasNoPlace : List (Option Entry) → List ℕ → Type 0
 HasNoPlace entries digits = (n : ℕ) → numeral n ≡ digits → 0 < n → n < 2147483648 → n < length entries → (found : Entry) × (slice_get entries n ≡ Some (Some found))
 
 -- the line, without its LF, is an entry that is noted, or a remark
-abbrev pub IsTaken : List (Option Entry) → List (Option Entry) → List ℕ → Type 0
-IsTaken old new line =
+abbrev pub IsTakenLine : List (Option Entry) → List (Option Entry) → List ℕ → Type 0
+IsTakenLine old new line =
     ((entry : Entry) × IsLineOf line entry.number.now entry.words.now × Notes old new entry)
     ⊎ (IsRemark line × ((digits words : List ℕ) → IsLineOf line digits words → ⊥) × (new ≡ old))
 
@@ -29,5 +29,5 @@ abbrev pub IsLeft : List (Option Entry) → List ℕ → Type 0
 IsLeft old line = (IsRemark line → ⊥) × ((digits words : List ℕ) → IsLineOf line digits words → HasNoPlace old digits)
 
 abbrev pub IsTakenIf : Bool → List (Option Entry) → List (Option Entry) → List ℕ → Type 0
-IsTakenIf true old new line = IsTaken old new line
+IsTakenIf true old new line = IsTakenLine old new line
 IsTakenIf false old new line = IsLeft old line

@@ -18,10 +18,10 @@ abbrev pub capped_move : ℕ → ℕ → ℕ → ℕ
 capped_move old base number = if nat_lt number old then number else min ((number - old) + base) 4294967295
 
 -- why the lines aren't all derived
-abbrev pub IsStopped : Conjunction → List ProofLine → List ProofLine → PublishFault → Type 0
-IsStopped f log lines Memory = Unit {0}
-IsStopped f log lines (NotDerived place) = FailsAt f log lines place
-IsStopped f log lines Full = ⊥
+abbrev pub IsDerivationFault : Conjunction → List ProofLine → List ProofLine → PublishFault → Type 0
+IsDerivationFault f log lines Memory = Unit {0}
+IsDerivationFault f log lines (NotDerived place) = FailsAt f log lines place
+IsDerivationFault f log lines Full = ⊥
 
 -- what the lines are answered
 abbrev pub IsExtended : Conjunction → List ProofLine → List ProofLine → Result (Unit {0}) PublishFault → Type 0

@@ -22,8 +22,8 @@ tree_text nodes = flat_map item_line (the_tree ∷ map a_node nodes)
 
 -- the text of a portion of the proof lines: what is written of it, and then that of the lines that
 -- aren't
-abbrev pub part_text : TextPart → List ℕ
-part_text part = part.text.items ++ lines_text part.lines.items
+abbrev pub portion_text : TextPart → List ℕ
+portion_text part = part.text.items ++ lines_text part.lines.items
 
 -- the lines of portions
 abbrev pub portions_lines : Portions → List ProofLine

@@ -22,7 +22,7 @@ use Rattle.prooflog.specs.declared.step.WrittenStep.TheVariants.{Issue, Match, S
 use Rattle.prooflog.specs.Refutations.{proof_words, is_line_in_range, item_line, a_proof, the_tree}
 use Rattle.prooflog.specs.Steps.{schedule_line}
 use Rattle.prooflog.specs.Grammar.{heading_line, refutation_line}
-use Rattle.prooflog.specs.Fault.{CanGoOn, IsWhy}
+use Rattle.prooflog.specs.Fault.{CanGoOnAsEvidence, IsWhy}
 
 -- what stands between the spaces of a line
 abbrev pub words_of : List ℕ → List (List ℕ)
@@ -73,15 +73,15 @@ counts_words variables clauses = codes "refutation" ∷ numeral variables ∷ nu
 abbrev pub HasFaultAfter : List (List ℕ) → List ℕ → EvidenceFault → Type 0
 HasFaultAfter above bytes Memory = Unit {0}
 HasFaultAfter above bytes fault =
-    (before : List (List ℕ)) × (line : List ℕ) × IsFirstFaultyLine (λ front. CanGoOn (above ++ front)) bytes before line × IsWhy fault (above ++ before) line
+    (before : List (List ℕ)) × (line : List ℕ) × IsFirstFaultyLine (λ front. CanGoOnAsEvidence (above ++ front)) bytes before line × IsWhy fault (above ++ before) line
 
 -- the lines above the proof lines of a refutation
-abbrev pub opening : Version → ℕ → ℕ → List (List ℕ)
-opening version variables clauses = heading_line version ∷ refutation_line variables clauses ∷ []
+abbrev pub opening_lines : Version → ℕ → ℕ → List (List ℕ)
+opening_lines version variables clauses = heading_line version ∷ refutation_line variables clauses ∷ []
 
 -- the lines above the nodes of a refutation
 abbrev pub above_tree : Version → ℕ → ℕ → List ProofLine → List (List ℕ)
-above_tree version variables clauses lines = opening version variables clauses ++ map item_line (map a_proof lines ++ the_tree ∷ [])
+above_tree version variables clauses lines = opening_lines version variables clauses ++ map item_line (map a_proof lines ++ the_tree ∷ [])
 
 -- what stands above the nodes is within the limits
 pub record FitsAbove (variables clauses : ℕ) (lines : List ProofLine) : Type 0 where
@@ -109,16 +109,16 @@ pub record AreWhole (bytes : List ℕ) (lines : List ProofLine) : Type 0 where
   pub in_range : IsTrue (list_all is_line_in_range lines)
 
 -- a part of the text, and the proof lines that are all of it
-pub record IsPart (bytes : List ℕ) (part : TextPart) : Type 0 where
+pub record IsTextPart (bytes : List ℕ) (part : TextPart) : Type 0 where
   pub forward : part.start ≤ part.end
   pub within : part.end ≤ length bytes
   pub whole : AreWhole (slice_range bytes part.start part.end) part.lines.items
 
 -- parts of the text, some of them missing
 abbrev pub AreParts : List ℕ → List (Option TextPart) → Type 0
-AreParts bytes parts = (place : ℕ) (part : Option TextPart) → slice_get parts place ≡ Some part → IfSome part (IsPart bytes)
+AreParts bytes parts = (place : ℕ) (part : Option TextPart) → slice_get parts place ≡ Some part → IfSome part (IsTextPart bytes)
 
 -- the text begins with the two headings of this kind of evidence
 abbrev pub IsOpened : List ℕ → EvidenceKind → List ℕ → Type 0
 IsOpened bytes Schedule rest = text_lines bytes ≡ (heading_line One ∷ schedule_line ∷ []) ++ text_lines rest
-IsOpened bytes (Refutation version v c) rest = (text_lines bytes ≡ opening version v c ++ text_lines rest) × (v ≤ 2147483647) × (c ≤ 2147483647)
+IsOpened bytes (Refutation version v c) rest = (text_lines bytes ≡ opening_lines version v c ++ text_lines rest) × (v ≤ 2147483647) × (c ≤ 2147483647)

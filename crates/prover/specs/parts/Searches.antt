@@ -34,12 +34,12 @@ IsEvidenceOn p (Schedule steps) = IsStuckRun p steps
 IsEvidenceOn p (Refutation claim) = IsRefutedBy p claim
 
 -- some run of the program ends with all ranks finished
-abbrev pub HasFinishedRun : MpiProgram → Type 0
-HasFinishedRun p = (steps : List Step) × IsFinishedRun p steps
+abbrev pub HasRunThatFinishes : MpiProgram → Type 0
+HasRunThatFinishes p = (steps : List Step) × IsFinishedRun p steps
 
 -- some run of the program ends stuck
-abbrev pub HasStuckRun : MpiProgram → Type 0
-HasStuckRun p = (steps : List Step) × IsStuckRun p steps
+abbrev pub HasRunThatSticks : MpiProgram → Type 0
+HasRunThatSticks p = (steps : List Step) × IsStuckRun p steps
 
 -- of a reason and of the one that is noted, if one is, the smaller one
 abbrev pub smallest_with : Option Why → Why → Why

@@ -5,19 +5,19 @@ use Rattle.callorder.specs.declared.calls.Kind.{Kind}
 use Rattle.callorder.specs.Calls.{message_of, pattern_of, is_probe_kind}
 use Rattle.callorder.specs.Programs.{MpiProgram, call_at}
 use Rattle.semantics.specs.declared.state.Step.{Step}
-use Rattle.semantics.specs.Configurations.{is_open}
+use Rattle.semantics.specs.Configurations.{is_open_call}
 use Rattle.semantics.specs.Machine.{Configuration, opening, after_all, can_issue, IsEnabled, IsRun}
 use Rattle.semantics.specs.StuckParts.{NoIssue}
 use Rattle.run_laws.specs.Places.{find_step}
 
 -- no step is enabled
-abbrev pub NothingEnabled : MpiProgram → Configuration → Type 0
-NothingEnabled p m = (step : Step) → IsEnabled p m step → ⊥
+abbrev pub NoStepEnabled : MpiProgram → Configuration → Type 0
+NoStepEnabled p m = (step : Step) → IsEnabled p m step → ⊥
 
 -- a run from the opening configuration after which no step is enabled
 pub record IsWalk (p : MpiProgram) (steps : List Step) : Type 0 where
   pub run : IsRun p (opening p) steps
-  pub ended : NothingEnabled p (after_all (opening p) steps)
+  pub ended : NoStepEnabled p (after_all (opening p) steps)
 
 -- ---- parts of a walk's step
 
@@ -27,12 +27,12 @@ is_other None rank = true
 is_other (Some held) rank = not (held == rank)
 
 -- no call of the rank can be issued
-abbrev pub NoIssueOf : MpiProgram → Configuration → ℕ → Type 0
-NoIssueOf p m rank = (buffered : Bool) → IsTrue (can_issue p m rank buffered) → ⊥
+abbrev pub NoIssueBy : MpiProgram → Configuration → ℕ → Type 0
+NoIssueBy p m rank = (buffered : Bool) → IsTrue (can_issue p m rank buffered) → ⊥
 
 abbrev pub is_open_send_call : MpiProgram → Configuration → ℕ → Option Call → Bool
 is_open_send_call p m c None = false
-is_open_send_call p m c (Some call) = is_some (message_of call.kind) && is_open p m c
+is_open_send_call p m c (Some call) = is_some (message_of call.kind) && is_open_call p m c
 
 -- the call is a send that is issued and not matched
 abbrev pub is_open_send : MpiProgram → Configuration → ℕ → Bool
@@ -45,7 +45,7 @@ finds false kind = is_some (pattern_of kind) && not (is_probe_kind kind)
 
 abbrev pub is_open_finder_call : MpiProgram → Configuration → Bool → ℕ → Option Call → Bool
 is_open_finder_call p m sees c None = false
-is_open_finder_call p m sees c (Some call) = finds sees call.kind && is_open p m c
+is_open_finder_call p m sees c (Some call) = finds sees call.kind && is_open_call p m c
 
 -- the call is a probe, or a taker, that is issued and has found no message
 abbrev pub is_open_finder : MpiProgram → Configuration → Bool → ℕ → Bool

@@ -9,19 +9,19 @@ abbrev pub texts_of : Marks → MarkTexts
 texts_of m = record { begin = m.begin.now; front = m.front.now; middle = m.middle.now; back = m.back.now; foot = m.foot.now }
 
 -- a name and a number with these marks
-abbrev pub line_of : MarkTexts → Count → List ℕ
-line_of m count = count_line m count.name.now count.number
+abbrev pub line_of_count : MarkTexts → Count → List ℕ
+line_of_count m count = count_line m count.name.now count.number
 
 abbrev pub lines_of : MarkTexts → List Count → List ℕ
-lines_of m counts = flat_map (line_of m) counts
+lines_of m counts = flat_map (line_of_count m) counts
 
 -- with any marks, the text of a number
-abbrev pub IsTold : Count → (MarkTexts → List ℕ) → Type 0
-IsTold count line = (m : MarkTexts) → line_of m count ≡ line m
+abbrev pub IsLineOfCount : Count → (MarkTexts → List ℕ) → Type 0
+IsLineOfCount count line = (m : MarkTexts) → line_of_count m count ≡ line m
 
 -- with any marks, the text of numbers
-abbrev pub AreTold : List Count → (MarkTexts → List ℕ) → Type 0
-AreTold counts text = (m : MarkTexts) → lines_of m counts ≡ text m
+abbrev pub AreLinesOfCounts : List Count → (MarkTexts → List ℕ) → Type 0
+AreLinesOfCounts counts text = (m : MarkTexts) → lines_of m counts ≡ text m
 
 -- the text of three groups of numbers
 abbrev pub marked_text : MarkTexts → List Count → List Count → List Count → List ℕ

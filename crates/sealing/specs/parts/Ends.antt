@@ -53,8 +53,8 @@ abbrev pub sent_to : ℕ → Finder → Loose
 sent_to rank finder = record { source = rank; destination = finder.rank; communicator = finder.communicator; tag = finder.tag }
 
 -- the list has the entry
-abbrev pub Lists : List Loose → Loose → Type 0
-Lists list entry = (place : ℕ) × (slice_get list place ≡ Some entry)
+abbrev pub ListsEntry : List Loose → Loose → Type 0
+ListsEntry list entry = (place : ℕ) × (slice_get list place ≡ Some entry)
 
 -- what one of the first n ranks could send to the finder, whose end doesn't tell that it has found
 pub record IsUntoldBelow (p : MpiProgram) (findings : Findings) (known : List Bool) (finder : Finder) (n : ℕ) (entry : Loose) : Type 0 where
@@ -64,8 +64,8 @@ pub record IsUntoldBelow (p : MpiProgram) (findings : Findings) (known : List Bo
   pub is : entry ≡ sent_to rank finder
 
 -- the new list has what the old one has, and this
-abbrev pub Adds : List Loose → List Loose → (Loose → Type 0) → Type 0
-Adds old new More = (entry : Loose) → Lists new entry ↔ (Lists old entry ⊎ More entry)
+abbrev pub GainsEntries : List Loose → List Loose → (Loose → Type 0) → Type 0
+GainsEntries old new More = (entry : Loose) → ListsEntry new entry ↔ (ListsEntry old entry ⊎ More entry)
 
 -- what is found once for all finders: partners and last calls
 pub record AreFindings (p : MpiProgram) (findings : Findings) : Type 0 where
@@ -80,7 +80,7 @@ pub record IsLooseBelow (p : MpiProgram) (n : ℕ) (entry : Loose) : Type 0 wher
 
 -- the list has each entry that is loose by one of the first n calls, and no other one
 abbrev pub AreLooseBelow : MpiProgram → ℕ → List Loose → Type 0
-AreLooseBelow p n list = (entry : Loose) → Lists list entry ↔ IsLooseBelow p n entry
+AreLooseBelow p n list = (entry : Loose) → ListsEntry list entry ↔ IsLooseBelow p n entry
 
 -- the new list has what is loose by the call n, too
 abbrev pub AddsLoose : MpiProgram → ℕ → List Loose → List Loose → Type 0

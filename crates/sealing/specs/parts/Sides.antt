@@ -103,7 +103,7 @@ pub record ArePlaces (occurrences : List (Option Occurrence)) (n : ℕ) (places 
 -- ---- partners
 
 -- a taker among these calls asks for this
-pub record IsAsked (calls : List Call) (wanted : Wanted) : Type 0 where
+pub record IsAskedByTaker (calls : List Call) (wanted : Wanted) : Type 0 where
   pub place : ℕ
   pub call : Call
   pub there : slice_get calls place ≡ Some call
@@ -111,7 +111,7 @@ pub record IsAsked (calls : List Call) (wanted : Wanted) : Type 0 where
 
 -- what the takers among the first n calls ask for
 pub record AreAsked (calls : List Call) (n : ℕ) (asked : Wanted → Bool) : Type 0 where
-  pub some : (wanted : Wanted) → asked wanted ≡ true → IsAsked calls wanted
+  pub some : (wanted : Wanted) → asked wanted ≡ true → IsAskedByTaker calls wanted
   pub each : (c : ℕ) (call : Call) (wanted : Wanted) → c < n → slice_get calls c ≡ Some call → wanted_of call ≡ Some wanted → asked wanted ≡ true
 
 abbrev pub wanted_by : Option ℕ → Option ℕ → Side → Wanted

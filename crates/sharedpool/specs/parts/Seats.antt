@@ -5,12 +5,12 @@ use Rattle.atomic_table.specs.declared.shared.Seat.{Seat}
 use Rattle.crossbeam_utils.specs.declared.atomic.seq_cell.Doing.{Doing}
 use Rattle.crossbeam_utils.specs.Seq.{cell_view}
 use Rattle.pool.specs.declared.entry.LoggedCall.{LoggedCall}
-use Rattle.pool.specs.States.{PoolState, PoolWithHistory, IsSound, IsLegal}
+use Rattle.pool.specs.States.{PoolState, PoolWithHistory, IsSoundPool, IsLegal}
 use Rattle.sharedpool.specs.declared.room.View.{View}
 use Rattle.sharedpool.specs.parts.Leaves.{leavers}
 use Rattle.sharedpool.specs.parts.Views.{taker, sitting}
 use Rattle.sharedpool.specs.Views.{knower, items_of}
-use Rattle.sharedpool.specs.Seats.{told}
+use Rattle.sharedpool.specs.Seats.{told_call}
 
 abbrev pub Token : Type 0
 Token = Seat (List ℕ) (Doing (List ℕ) View)
@@ -33,7 +33,7 @@ pub record IsLocked (table : TableId) (opening : PoolState) (pool : PoolWithHist
   pub of : keeper.table_id ≡ table
   pub knows : cell_view keeper ≡ knower workers (cell_view keeper).all
   pub some_worker : 1 ≤ workers
-  pub sound : IsSound opening
+  pub sound : IsSoundPool opening
   pub legal : IsLegal opening (cell_view keeper).all pool
   pub places : workers ≤ pool.places + leavers workers (cell_view keeper).all
 

@@ -32,7 +32,7 @@ abbrev pub with_item : View → LoggedCall → View
 with_item v item = record v { all = v.all ++ item ∷ []; mine = v.mine ++ item ∷ [] }
 
 -- what the rule says of one pass
-pub record Fits (keeper workers : ℕ) (all : List LoggedCall) (taken : List ℕ) (place : ℕ → ℕ) (by : ℕ) (v : View) : Type 0 where
+pub record IsFittingView (keeper workers : ℕ) (all : List LoggedCall) (taken : List ℕ) (place : ℕ → ℕ) (by : ℕ) (v : View) : Type 0 where
   pub keeps : v.keeps ≡ true → (by ≡ keeper) × (v.workers ≡ workers) × (v.all ≡ all) × (v.taken ≡ taken)
   pub sits : v.sits ≡ true → (by ≡ place v.worker) × (v.worker < workers) × (v.mine ≡ items_of v.worker all) × IsNoneOf taken v.worker
 
@@ -44,7 +44,7 @@ pub record Kept (words : List ℕ) (views : List View) : Type 0 where
   pub place : ℕ → ℕ
   pub below : AllBelow workers all
   pub different : AreDifferent taken
-  pub each : (by : ℕ) (v : View) → get_elem? views by ≡ some v → Fits keeper workers all taken place by v
+  pub each : (by : ℕ) (v : View) → get_elem? views by ≡ some v → IsFittingView keeper workers all taken place by v
 
 -- the item was added, and the seat's list had been its worker's items
 abbrev pub Added : LoggedCall → View → List ℕ → List ℕ → View → Type 0

@@ -7,7 +7,7 @@ use Rattle.calltext.specs.Grammar.{CallFits}
 use Rattle.calltext.specs.Limits.{long}
 use Rattle.calltext.specs.parts.Printed.{rank_text, ranks_text}
 use Rattle.unroll.specs.declared.call.Placed.{Placed}
-use Rattle.spmd_program.specs.Lines.{lines_of}
+use Rattle.spmd_program.specs.Lines.{lines_of_calls}
 
 -- the lists have the calls of one rank each, from this rank on
 abbrev pub AreOfRanks : ℕ → List (List Placed) → Type 0
@@ -22,5 +22,5 @@ pub record IsRankWritten (rank : ℕ) (lines : List CallLine) (old new : List �
 -- so are the ranks of a program from rank 0 on, whose calls are these lists
 pub record AreRanksWritten (names : List (Vec ℕ)) (parts : List (List Placed)) (old new : List ℕ) : Type 0 where
   pub own : AreOfRanks 0 parts
-  pub text : new ≡ old ++ ranks_text 0 (map (λ part. lines_of names part) parts)
-  pub fit : AllByRecursion (λ part. AllByRecursion (CallFits long) (lines_of names part)) parts
+  pub text : new ≡ old ++ ranks_text 0 (map (λ part. lines_of_calls names part) parts)
+  pub fit : AllByRecursion (λ part. AllByRecursion (CallFits long) (lines_of_calls names part)) parts

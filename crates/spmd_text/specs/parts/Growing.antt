@@ -14,10 +14,10 @@ use Rattle.spmd_text.specs.declared.piece.Word.TheVariants as word
 use Rattle.spmd_text.specs.declared.piece.Piece.{Piece}
 use Rattle.spmd_text.specs.declared.piece.Piece.TheVariants as piece
 use Rattle.spmd_text.specs.declared.piece.Token.{Token}
-use Rattle.spmd_text.specs.Spelling.{after, after_expression, is_condition}
-use Rattle.spmd_text.specs.parts.Joints.{is_lone_operator, Place, joined, joint_piece, may_join, stops}
+use Rattle.spmd_text.specs.Spelling.{after_piece, after_expression, is_condition}
+use Rattle.spmd_text.specs.parts.Joints.{is_lone_operator, Place, joined_parts, joint_piece, may_join, stops}
 use Rattle.spmd_text.specs.Joints.{closeness}
-use Rattle.spmd_text.specs.Limits.{IsWithin, parts}
+use Rattle.spmd_text.specs.Limits.{IsTreeWithin, parts_in_row}
 use Rattle.spmd_text.specs.parts.Reading.{Alike}
 
 -- ---- how an expression begins
@@ -31,17 +31,17 @@ is_operand (form.Either' p a q b) = false
 is_operand _ = true
 
 -- the piece that such a tree begins with
-abbrev pub opening : Expression → Piece
-opening (form.Literal n) = piece.Number n
-opening form.Null = piece.Word word.Null
-opening form.Rank = piece.Word word.Rank
-opening form.Size = piece.Word word.Size
-opening (form.Named k) = piece.Name k
-opening (form.Negative' p a) = piece.Minus
-opening (form.Grouped' p a) = piece.Open
-opening (form.Negation' p a) = piece.Word word.Not
-opening (form.Choice' p c q a s b) = piece.Word word.If
-opening _ = piece.TextEnd
+abbrev pub opening_piece : Expression → Piece
+opening_piece (form.Literal n) = piece.Number n
+opening_piece form.Null = piece.Word word.Null
+opening_piece form.Rank = piece.Word word.Rank
+opening_piece form.Size = piece.Word word.Size
+opening_piece (form.Named k) = piece.Name k
+opening_piece (form.Negative' p a) = piece.Minus
+opening_piece (form.Grouped' p a) = piece.Open
+opening_piece (form.Negation' p a) = piece.Word word.Not
+opening_piece (form.Choice' p c q a s b) = piece.Word word.If
+opening_piece _ = piece.TextEnd
 
 -- how such a tree begins
 abbrev pub begun : Expression → Beginning
@@ -90,7 +90,7 @@ enclosed prefix.Parentheses p a = form.Grouped' p a
 abbrev pub ends_prefix : Prefix → Expression → List Token → List Token → Type 0
 ends_prefix prefix.Not a here rest = (here ≡ rest) × (is_condition a ≡ true)
 ends_prefix prefix.Minus a here rest = (here ≡ rest) × (is_condition a ≡ false)
-ends_prefix prefix.Parentheses a here rest = after piece.Close (Some here) ≡ Some rest
+ends_prefix prefix.Parentheses a here rest = after_piece piece.Close (Some here) ≡ Some rest
 
 -- such a tree may stand first where joints bind at least so close, and no joint follows that binds
 -- as close as it does; where a number has to stand, it is no condition
@@ -106,9 +106,9 @@ is_lone_tree (form.Binary' o p a q b) = is_lone_operator o
 is_lone_tree _ = false
 
 -- the row that the tree ends with
-pub record IsRow (row : Row) (a : Expression) : Type 0 where
+pub record IsJointRow (row : Row) (a : Expression) : Type 0 where
   pub close : row.binding ≡ closeness a
-  pub many : row.joints + 1 ≡ parts a
+  pub many : row.joints + 1 ≡ parts_in_row a
   pub alone : row.lone ≡ is_lone_tree a
 
 -- a joint and what stands right of it, behind a tree that it may be joined with
@@ -119,15 +119,15 @@ pub record Joining (depth : ℕ) (in_parameter : Bool) (a : Expression) (here : 
   pub right : Expression
   pub next : List Token
   pub behind : List Token
-  pub begins : after (joint_piece by) (Some here) ≡ Some next
+  pub begins : after_piece (joint_piece by) (Some here) ≡ Some next
   pub spelled : after_expression right (Some next) ≡ Some behind
   pub joins : may_join by a right ≡ true
-  pub within : IsWithin depth in_parameter right
-  pub narrow : parts (joined by left_place a right_place right) ≤ 256
+  pub within : IsTreeWithin depth in_parameter right
+  pub narrow : parts_in_row (joined_parts by left_place a right_place right) ≤ 256
 
 -- both parts with the joint between them
 abbrev pub whole : {depth : ℕ} {in_parameter : Bool} {a : Expression} {here : List Token} → Joining depth in_parameter a here → Expression
-whole {depth} {in_parameter} {a} {here} part = joined part.by part.left_place a part.right_place part.right
+whole {depth} {in_parameter} {a} {here} part = joined_parts part.by part.left_place a part.right_place part.right
 
 -- the tree, joined with what stands here, becomes `e` before these pieces
 pub data Becomes (depth : ℕ) (in_parameter : Bool) (e : Expression) (rest : List Token) : Expression → List Token → Type 0 where
@@ -139,7 +139,7 @@ pub record Growing (s : Parser) (left : Expression) (row : Row) (least : ℕ) (d
   pub sound : s.fault ≡ None
   pub tree : Expression
   pub alike : Alike left tree
-  pub row_so : IsRow row tree
+  pub row_so : IsJointRow row tree
   pub grows : Becomes depth s.in_parameter e rest tree s.rest.now
   pub close : least ≤ closeness e
   pub ends : stops least rest ≡ true

@@ -13,7 +13,7 @@ use Rattle.spmd_text.specs.declared.piece.Piece.TheVariants as piece
 use Rattle.spmd_text.specs.declared.piece.Token.{Token}
 use Rattle.spmd_text.specs.declared.joints.Joint.{Joint}
 use Rattle.spmd_text.specs.declared.joints.Joint.TheVariants as joint
-use Rattle.spmd_text.specs.Spelling.{operator_piece, comparison_piece, fits, left_of, right_of}
+use Rattle.spmd_text.specs.Spelling.{operator_piece, comparison_piece, fits_binding, left_of, right_of}
 use Rattle.spmd_text.specs.Joints.{closeness_of}
 
 -- what the piece joins two parts by
@@ -81,11 +81,11 @@ joint_ahead None row least = None
 joint_ahead (Some j) row least = if nat_le least (binding_of j) && goes_on row (binding_of j) then Some j else None
 
 -- two parts with a joint between them
-abbrev pub joined : Joint → Place → Expression → Place → Expression → Expression
-joined joint.Or p a q b = form.Either' p a q b
-joined joint.And p a q b = form.Both' p a q b
-joined (joint.Compared c) p a q b = form.Compare' c p a q b
-joined (joint.Between o) p a q b = form.Binary' o p a q b
+abbrev pub joined_parts : Joint → Place → Expression → Place → Expression → Expression
+joined_parts joint.Or p a q b = form.Either' p a q b
+joined_parts joint.And p a q b = form.Both' p a q b
+joined_parts (joint.Compared c) p a q b = form.Compare' c p a q b
+joined_parts (joint.Between o) p a q b = form.Binary' o p a q b
 
 -- how close what stands left of a joint has to stand together at least, on the scale of trees
 abbrev pub left_least : Joint → ℕ
@@ -102,7 +102,7 @@ right_least (joint.Between o) = right_of o
 
 -- both may stand left and right of the joint
 abbrev pub may_join : Joint → Expression → Expression → Bool
-may_join j a b = fits a (left_least j) (joins_conditions j) && fits b (right_least j) (joins_conditions j)
+may_join j a b = fits_binding a (left_least j) (joins_conditions j) && fits_binding b (right_least j) (joins_conditions j)
 
 abbrev pub is_below : Option Joint → ℕ → Bool
 is_below None least = true

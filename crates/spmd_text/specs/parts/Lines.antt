@@ -15,12 +15,12 @@ use Rattle.spmd_text.specs.declared.piece.Piece.{Piece}
 use Rattle.spmd_text.specs.declared.piece.Piece.TheVariants as piece
 use Rattle.spmd_text.specs.declared.piece.Token.{Token}
 use Rattle.spmd_text.specs.declared.reading.Policy.{Policy}
-use Rattle.spmd_text.specs.Limits.{IsWithin}
-use Rattle.spmd_text.specs.Spelling.{after, after_end, after_head, after_parameter, after_span, after_statement, after_variable, policy_word}
+use Rattle.spmd_text.specs.Limits.{IsTreeWithin}
+use Rattle.spmd_text.specs.Spelling.{after_piece, after_end, after_head, after_parameter, after_span, after_statement, after_variable, word_of_policy}
 use Rattle.spmd_text.specs.Rules.{IfThere}
 use Rattle.spmd_text.specs.parts.Reading.{next}
 use Rattle.spmd_text.specs.parts.Statements.{MayOne, MaySpan, first_word, is_end, is_simple, scope_of}
-use Rattle.spmd_text.specs.Statements.{Scope, is_one_of, line_at, may_give, within_loop}
+use Rattle.spmd_text.specs.Statements.{Scope, is_one_of, line_of_first_piece, may_give, within_loop}
 use Rattle.spmd_text.specs.Lines.{is_line}
 
 abbrev pub is_text_end : Piece → Bool
@@ -50,9 +50,9 @@ pub data Block : Type 0 where
   last : Block
 
 -- a statement may stand there: the text has begun
-abbrev pub takes : Block → Bool
-takes start = false
-takes _ = true
+abbrev pub takes_statement : Block → Bool
+takes_statement start = false
+takes_statement _ = true
 
 -- a parameter may stand there: no statement came before
 abbrev pub lists : Block → Bool
@@ -117,16 +117,16 @@ pub record IsHeading (levels : List Level) (line : List Token) (next : List Leve
   pub outer : List Level
   pub here : levels ≡ level ∷ outer
   pub first : level.block ≡ start
-  pub spelled : after piece.LineEnd (after (piece.Word word.Spmd) (Some line)) ≡ Some []
+  pub spelled : after_piece piece.LineEnd (after_piece (piece.Word word.Spmd) (Some line)) ≡ Some []
   pub is : next ≡ with_block headed level ∷ outer
 
-pub record IsPolicyLine (levels : List Level) (line : List Token) (next : List Level) : Type 0 where
+pub record IsSpmdPolicyLine (levels : List Level) (line : List Token) (next : List Level) : Type 0 where
   pub level : Level
   pub outer : List Level
   pub here : levels ≡ level ∷ outer
   pub second : level.block ≡ headed
   pub policy : Policy
-  pub spelled : after piece.LineEnd (after (piece.Word (policy_word policy)) (after (piece.Word word.Policy) (Some line))) ≡ Some []
+  pub spelled : after_piece piece.LineEnd (after_piece (piece.Word (word_of_policy policy)) (after_piece (piece.Word word.Policy) (Some line))) ≡ Some []
   pub is : next ≡ with_block listed level ∷ outer
 
 pub record IsParameterLine (levels : List Level) (line : List Token) (next : List Level) : Type 0 where
@@ -138,7 +138,7 @@ pub record IsParameterLine (levels : List Level) (line : List Token) (next : Lis
   pub name : ℕ
   pub value : Option Expression
   pub other : is_one_of level.scope.parameters name ≡ false
-  pub within : IfThere (IsWithin 32 true) value
+  pub within : IfThere (IsTreeWithin 32 true) value
   pub spelled : after_parameter number name value (Some line) ≡ Some []
   pub is : next ≡ with_parameter name level ∷ outer
 
@@ -147,7 +147,7 @@ pub record IsSimpleLine (levels : List Level) (line : List Token) (next : List L
   pub level : Level
   pub outer : List Level
   pub here : levels ≡ level ∷ outer
-  pub begun : takes level.block ≡ true
+  pub begun : takes_statement level.block ≡ true
   pub statement : Statement
   pub simple : is_simple (first_word statement) ≡ true
   pub may : MayOne level.scope level.depth statement
@@ -158,7 +158,7 @@ pub record IsLoopLine (levels : List Level) (line : List Token) (next : List Lev
   pub level : Level
   pub outer : List Level
   pub here : levels ≡ level ∷ outer
-  pub begun : takes level.block ≡ true
+  pub begun : takes_statement level.block ≡ true
   pub number : ℕ
   pub name : ℕ
   pub span : Span
@@ -172,11 +172,11 @@ pub record IsIfLine (levels : List Level) (line : List Token) (next : List Level
   pub level : Level
   pub outer : List Level
   pub here : levels ≡ level ∷ outer
-  pub begun : takes level.block ≡ true
+  pub begun : takes_statement level.block ≡ true
   pub number : ℕ
   pub condition : Expression
   pub deep : 1 ≤ level.depth
-  pub within : IsWithin 32 level.scope.in_parameter condition
+  pub within : IsTreeWithin 32 level.scope.in_parameter condition
   pub spelled : after_head number false condition (Some line) ≡ Some []
   pub is : next ≡ in_block branch level ∷ behind_one level ∷ outer
 
@@ -189,7 +189,7 @@ pub record IsElifLine (levels : List Level) (line : List Token) (next : List Lev
   pub number : ℕ
   pub condition : Expression
   pub deep : 1 ≤ level.depth
-  pub within : IsWithin 32 level.scope.in_parameter condition
+  pub within : IsTreeWithin 32 level.scope.in_parameter condition
   pub spelled : after_head number true condition (Some line) ≡ Some []
   pub is : next ≡ in_block branch level ∷ outer
 
@@ -198,7 +198,7 @@ pub record IsElseLine (levels : List Level) (line : List Token) (next : List Lev
   pub outer : List Level
   pub here : levels ≡ level ∷ outer
   pub open_branch : level.block ≡ branch
-  pub spelled : after piece.LineEnd (after (piece.Word word.Else) (Some line)) ≡ Some []
+  pub spelled : after_piece piece.LineEnd (after_piece (piece.Word word.Else) (Some line)) ≡ Some []
   pub is : next ≡ with_block last level ∷ outer
 
 pub record IsEndLine (levels : List Level) (line : List Token) (next : List Level) : Type 0 where
@@ -213,14 +213,14 @@ pub record IsEndLine (levels : List Level) (line : List Token) (next : List Leve
 pub record IsTextEnd (levels : List Level) (line : List Token) (next : List Level) : Type 0 where
   pub level : Level
   pub here : levels ≡ level ∷ []
-  pub begun : takes level.block ≡ true
+  pub begun : takes_statement level.block ≡ true
   pub outermost : is_inner level.block ≡ false
-  pub spelled : after piece.TextEnd (Some line) ≡ Some []
+  pub spelled : after_piece piece.TextEnd (Some line) ≡ Some []
   pub is : next ≡ []
 
 pub data Steps (levels : List Level) (line : List Token) (next : List Level) : Type 0 where
   heading : IsHeading levels line next → Steps levels line next
-  policy : IsPolicyLine levels line next → Steps levels line next
+  policy : IsSpmdPolicyLine levels line next → Steps levels line next
   parameter : IsParameterLine levels line next → Steps levels line next
   simple : IsSimpleLine levels line next → Steps levels line next
   repeat : IsLoopLine levels line next → Steps levels line next
@@ -254,12 +254,12 @@ pub record IsStuckAt (levels : List Level) (pieces : List Token) (number : ℕ) 
   pub runs : Runs reached levels before
   pub one : is_line bad ≡ true
   pub stuck : (next : List Level) → Steps reached bad next → ⊥
-  pub told : number ≡ line_at bad
+  pub told : number ≡ line_of_first_piece bad
 
 -- Where a fault of the grammar comes up, its line is told. The pieces `here` are those from the
 -- beginning of the line on.
-abbrev pub Tells : List Level → Parser → Parser → List Token → ℕ → Type 0
-Tells levels old new here number =
+abbrev pub TellsLine : List Level → Parser → Parser → List Token → ℕ → Type 0
+TellsLine levels old new here number =
     (why : ParseReason) → old.fault ≡ None → new.fault ≡ Some why → (why ≡ Memory → ⊥) → has_text_end here ≡ true → IsStuckAt levels here number
 
 -- the pieces from a word on that stands on this line
@@ -279,16 +279,16 @@ goes_on (piece.Word word.Else) = true
 goes_on _ = false
 
 -- an `elif` or `else` may stand behind this one
-abbrev pub is_open : Statement → Bool
-is_open (statement.When' line k c p a q b) = is_open b
-is_open (statement.Otherwise' p a) = false
-is_open s = true
+abbrev pub is_open_tail : Statement → Bool
+is_open_tail (statement.When' line k c p a q b) = is_open_tail b
+is_open_tail (statement.Otherwise' p a) = false
+is_open_tail s = true
 
 -- The statements of a branch, and this behind them, end here: no `elif` or `else` comes that might
 -- stand there.
 pub record EndsBranch (s : Parser) (tail : Statement) : Type 0 where
   pub ends : is_end (next s) ≡ true
-  pub closed : is_open tail ≡ true → goes_on (next s) ≡ false
+  pub closed : is_open_tail tail ≡ true → goes_on (next s) ≡ false
 
 -- What stands at this level ends here: no `elif` or `else` comes that might stand there.
 pub record EndsBlock (level : Level) (s : Parser) : Type 0 where

@@ -17,9 +17,9 @@ use Rattle.spmd_text.specs.declared.piece.Piece.TheVariants as piece
 use Rattle.spmd_text.specs.declared.piece.Token.{Token}
 use Rattle.spmd_text.specs.declared.calls.Form.{Form}
 use Rattle.spmd_text.specs.declared.calls.Form.TheVariants as form
-use Rattle.spmd_text.specs.Spelling.{Rest, after, after_arguments, after_condition, after_group, after_index, after_label, after_labels, after_optional, after_request, after_root, after_value, after_wild, begins, has_root, is_rooted}
+use Rattle.spmd_text.specs.Spelling.{Rest, after_piece, after_arguments, after_condition, after_group, after_index, after_label, after_labels, after_optional, after_request, after_root, after_value, after_wild, piece_begins, has_root, is_rooted}
 use Rattle.spmd_text.specs.parts.Joints.{stops}
-use Rattle.spmd_text.specs.Limits.{IsWithin}
+use Rattle.spmd_text.specs.Limits.{IsTreeWithin}
 use Rattle.spmd_text.specs.parts.Reading.{Finds, Sticks}
 use Rattle.spmd_text.specs.Rules.{IfThere, MayCall, MayGroup, MayLabel, MayLabels, MayValue, count_labels}
 
@@ -35,7 +35,7 @@ pub record Keeps (old new : Parser) : Type 0 where
 
 -- A part of a text: what is left behind each of its trees, which of them may be read, which two are
 -- one, and what may come behind them.
-pub record Part (X : Type 0) : Type 1 where
+pub record SyntaxPart (X : Type 0) : Type 1 where
   pub behind : X → Rest → Rest
   pub May : X → Type 0
   pub Same : X → X → Type 0
@@ -43,7 +43,7 @@ pub record Part (X : Type 0) : Type 1 where
 
 -- The part is read. Where nothing was wrong and some tree of it stands here, it was found, unless
 -- memory ran out; and where nothing is wrong then, what was found is such a tree.
-pub record Reads {X : Type 0} (part : Part X) (old new : Parser) (found : X) : Type 0 where
+pub record HasRead {X : Type 0} (part : SyntaxPart X) (old new : Parser) (found : X) : Type 0 where
   pub goes : Keeps old new
   pub finds : (x : X) (rest : List Token) → old.fault ≡ None → part.behind x (Some old.rest.now) ≡ Some rest → part.May x → part.ends rest ≡ true
       → Finds new rest (part.Same found x)
@@ -51,7 +51,7 @@ pub record Reads {X : Type 0} (part : Part X) (old new : Parser) (found : X) : T
   pub may : new.fault ≡ None → part.May found
 
 -- one part, and then another
-abbrev pub then_part : {X Y : Type 0} → Part X → Part Y → Part (X × Y)
+abbrev pub then_part : {X Y : Type 0} → SyntaxPart X → SyntaxPart Y → SyntaxPart (X × Y)
 then_part one other = record {
   behind = λ both rest. other.behind both.1 (one.behind both.0 rest);
   May = λ both. one.May both.0 × other.May both.1;
@@ -64,16 +64,16 @@ any_end rest = true
 
 -- what comes next isn't this piece
 abbrev pub lacks : Piece → List Token → Bool
-lacks p rest = not (begins p (Some rest))
+lacks p rest = not (piece_begins p (Some rest))
 
 abbrev pub Unknown : {X : Type 0} → X → X → Type 0
 Unknown a b = Unit {0}
 
-abbrev pub piece_part : Piece → Part (Unit {0})
-piece_part p = record { behind = λ none rest. after p rest; May = λ none. Unit {0}; Same = Unknown; ends = any_end }
+abbrev pub piece_part : Piece → SyntaxPart (Unit {0})
+piece_part p = record { behind = λ none rest. after_piece p rest; May = λ none. Unit {0}; Same = Unknown; ends = any_end }
 
-abbrev pub name_part : Part ℕ
-name_part = record { behind = λ k rest. after (piece.Name k) rest; May = λ k. Unit {0}; Same = λ a b. a ≡ b; ends = any_end }
+abbrev pub name_part : SyntaxPart ℕ
+name_part = record { behind = λ k rest. after_piece (piece.Name k) rest; May = λ k. Unit {0}; Same = λ a b. a ≡ b; ends = any_end }
 
 -- neither a name nor a number, and not the end of the text
 abbrev pub is_plain : Piece → Bool
@@ -82,23 +82,23 @@ is_plain (piece.Number n) = false
 is_plain piece.TextEnd = false
 is_plain p = true
 
-abbrev pub value_part : Bool → Part Expression
-value_part in_parameter = record { behind = after_value; May = IsWithin 32 in_parameter; Same = Unknown; ends = stops 4 }
+abbrev pub value_part : Bool → SyntaxPart Expression
+value_part in_parameter = record { behind = after_value; May = IsTreeWithin 32 in_parameter; Same = Unknown; ends = stops 4 }
 
-abbrev pub condition_part : Bool → Part Expression
-condition_part in_parameter = record { behind = after_condition; May = IsWithin 32 in_parameter; Same = Unknown; ends = stops 0 }
+abbrev pub condition_part : Bool → SyntaxPart Expression
+condition_part in_parameter = record { behind = after_condition; May = IsTreeWithin 32 in_parameter; Same = Unknown; ends = stops 0 }
 
 -- an index in brackets, or none
-abbrev pub index_part : Bool → Part (Option Expression)
+abbrev pub index_part : Bool → SyntaxPart (Option Expression)
 index_part in_parameter =
     record { behind = after_index; May = MayValue in_parameter; Same = λ a b. is_some a ≡ is_some b; ends = lacks piece.OpenIndex }
 
 -- a value, or a wildcard
-abbrev pub wild_part : Bool → Part (Option Expression)
+abbrev pub wild_part : Bool → SyntaxPart (Option Expression)
 wild_part in_parameter = record { behind = after_wild; May = MayValue in_parameter; Same = Unknown; ends = stops 4 }
 
 -- a word and a value, or none
-abbrev pub optional_part : Bool → Word → Part (Option Expression)
+abbrev pub optional_part : Bool → Word → SyntaxPart (Option Expression)
 optional_part in_parameter w = record {
   behind = after_optional (piece.Word w);
   May = MayValue in_parameter;
@@ -106,12 +106,12 @@ optional_part in_parameter w = record {
   ends = λ rest. stops 4 rest && lacks (piece.Word w) rest;
 }
 
-abbrev pub label_part : Bool → List (Vec ℕ) → Part LabelForm
+abbrev pub label_part : Bool → List (Vec ℕ) → SyntaxPart LabelForm
 label_part in_parameter names =
     record { behind = after_label; May = MayLabel in_parameter names; Same = Unknown; ends = lacks piece.OpenIndex }
 
 -- the request of a call that is started, or none
-abbrev pub request_part : Bool → List (Vec ℕ) → Bool → Part (Option LabelForm)
+abbrev pub request_part : Bool → List (Vec ℕ) → Bool → SyntaxPart (Option LabelForm)
 request_part in_parameter names started = record {
   behind = after_request;
   May = λ request. (is_some request ≡ started) × IfThere (MayLabel in_parameter names) request;
@@ -120,7 +120,7 @@ request_part in_parameter names started = record {
 }
 
 -- requests, so many at most
-abbrev pub labels_part : Bool → List (Vec ℕ) → ℕ → Part Labels
+abbrev pub labels_part : Bool → List (Vec ℕ) → ℕ → SyntaxPart Labels
 labels_part in_parameter names most = record {
   behind = after_labels;
   May = λ labels. MayLabels in_parameter names labels × (count_labels labels ≤ most);
@@ -128,7 +128,7 @@ labels_part in_parameter names most = record {
   ends = λ rest. lacks piece.OpenIndex rest && lacks piece.Comma rest;
 }
 
-abbrev pub group_part : Bool → Part (Option GroupForm)
+abbrev pub group_part : Bool → SyntaxPart (Option GroupForm)
 group_part in_parameter = record {
   behind = after_group;
   May = IfThere (MayGroup in_parameter);
@@ -137,7 +137,7 @@ group_part in_parameter = record {
 }
 
 -- the root of a call that has one, or none
-abbrev pub root_part : Bool → Bool → Part (Option Expression)
+abbrev pub root_part : Bool → Bool → SyntaxPart (Option Expression)
 root_part in_parameter rooted =
     record { behind = after_root; May = λ root. (has_root root ≡ rooted) × MayValue in_parameter root; Same = Unknown; ends = stops 4 }
 
@@ -153,42 +153,42 @@ form_of_call (call.SendReceive d t s u c) = form.SendReceive
 form_of_call (call.Collective k root g c) = form.Collective k (is_rooted k)
 
 -- a call of this form behind its word, up to the end of the line
-abbrev pub arguments_part : Bool → List (Vec ℕ) → Form → Part Arguments
+abbrev pub arguments_part : Bool → List (Vec ℕ) → Form → SyntaxPart Arguments
 arguments_part in_parameter names f = record {
   behind = after_arguments;
   May = λ c. (form_of_call c ≡ f) × MayCall in_parameter names c;
   Same = Unknown;
-  ends = λ rest. begins piece.LineEnd (Some rest);
+  ends = λ rest. piece_begins piece.LineEnd (Some rest);
 }
 
 -- a collective call has a root where it is to have one
-abbrev pub IsRight : Form → Type 0
-IsRight (form.Collective k rooted) = rooted ≡ is_rooted k
-IsRight _ = Unit {0}
+abbrev pub HasRightRoot : Form → Type 0
+HasRightRoot (form.Collective k rooted) = rooted ≡ is_rooted k
+HasRightRoot _ = Unit {0}
 
 -- what a word begins
-abbrev pub form_of : Word → Option Form
-form_of word.Send = Some (form.Send Standard false)
-form_of word.Ssend = Some (form.Send Synchronous false)
-form_of word.Bsend = Some (form.Send Buffered false)
-form_of word.Isend = Some (form.Send Standard true)
-form_of word.Issend = Some (form.Send Synchronous true)
-form_of word.Ibsend = Some (form.Send Buffered true)
-form_of word.Recv = Some (form.Receive false)
-form_of word.Irecv = Some (form.Receive true)
-form_of word.Probe = Some form.Probe
-form_of word.Mprobe = Some form.MatchedProbe
-form_of word.Mrecv = Some (form.MatchedReceive false)
-form_of word.Imrecv = Some (form.MatchedReceive true)
-form_of word.Sendrecv = Some form.SendReceive
-form_of word.Wait = Some form.Wait
-form_of word.Barrier = Some (form.Collective kind.Barrier false)
-form_of word.Bcast = Some (form.Collective kind.Broadcast true)
-form_of word.Reduce = Some (form.Collective kind.Reduce true)
-form_of word.Allreduce = Some (form.Collective kind.AllReduce false)
-form_of word.Gather = Some (form.Collective kind.Gather true)
-form_of word.Scatter = Some (form.Collective kind.Scatter true)
-form_of word.Allgather = Some (form.Collective kind.AllGather false)
-form_of word.Alltoall = Some (form.Collective kind.AllToAll false)
-form_of word.Scan = Some (form.Collective kind.Scan false)
-form_of _ = None
+abbrev pub syntax_form : Word → Option Form
+syntax_form word.Send = Some (form.Send Standard false)
+syntax_form word.Ssend = Some (form.Send Synchronous false)
+syntax_form word.Bsend = Some (form.Send Buffered false)
+syntax_form word.Isend = Some (form.Send Standard true)
+syntax_form word.Issend = Some (form.Send Synchronous true)
+syntax_form word.Ibsend = Some (form.Send Buffered true)
+syntax_form word.Recv = Some (form.Receive false)
+syntax_form word.Irecv = Some (form.Receive true)
+syntax_form word.Probe = Some form.Probe
+syntax_form word.Mprobe = Some form.MatchedProbe
+syntax_form word.Mrecv = Some (form.MatchedReceive false)
+syntax_form word.Imrecv = Some (form.MatchedReceive true)
+syntax_form word.Sendrecv = Some form.SendReceive
+syntax_form word.Wait = Some form.Wait
+syntax_form word.Barrier = Some (form.Collective kind.Barrier false)
+syntax_form word.Bcast = Some (form.Collective kind.Broadcast true)
+syntax_form word.Reduce = Some (form.Collective kind.Reduce true)
+syntax_form word.Allreduce = Some (form.Collective kind.AllReduce false)
+syntax_form word.Gather = Some (form.Collective kind.Gather true)
+syntax_form word.Scatter = Some (form.Collective kind.Scatter true)
+syntax_form word.Allgather = Some (form.Collective kind.AllGather false)
+syntax_form word.Alltoall = Some (form.Collective kind.AllToAll false)
+syntax_form word.Scan = Some (form.Collective kind.Scan false)
+syntax_form _ = None

@@ -11,16 +11,16 @@ use Rattle.spmd_text.specs.declared.piece.Piece.TheVariants as piece
 use Rattle.spmd_text.specs.declared.piece.Token.{Token}
 use Rattle.spmd_text.specs.declared.reading.Policy.{Policy}
 use Rattle.spmd_text.specs.parts.Joints.{stops}
-use Rattle.spmd_text.specs.Limits.{IsWithin}
-use Rattle.spmd_text.specs.parts.Reading.{Finds, Sticks, noted}
+use Rattle.spmd_text.specs.Limits.{IsTreeWithin}
+use Rattle.spmd_text.specs.parts.Reading.{Finds, Sticks, first_noted}
 use Rattle.spmd_text.specs.Spelling.{after_optional, after_statement, is_piece}
-use Rattle.spmd_text.specs.parts.Parts.{Part, Unknown, any_end, lacks}
+use Rattle.spmd_text.specs.parts.Parts.{SyntaxPart, Unknown, any_end, lacks}
 use Rattle.spmd_text.specs.Rules.{IfThere}
 use Rattle.spmd_text.specs.parts.Statements.{heading_part, put_back}
 use Rattle.spmd_text.specs.Programs.{ObeyParameters, ObeysText, parameters_of}
 
 -- As `Keeps`, where these names of parameters are added, unless something is wrong.
-pub record Grows (old new : Parser) (names : List ℕ) : Type 0 where
+pub record GrowsByParameters (old new : Parser) (names : List ℕ) : Type 0 where
   pub names_same : new.names.now ≡ old.names.now
   pub in_parameter : new.in_parameter ≡ old.in_parameter
   pub parameters : new.fault ≡ None → new.parameters.items ≡ old.parameters.items ++ names
@@ -29,26 +29,26 @@ pub record Grows (old new : Parser) (names : List ℕ) : Type 0 where
   pub sticks : Sticks old new
 
 -- As `Reads`, but for what is kept.
-pub record Meets {X : Type 0} (part : Part X) (old new : Parser) (found : X) : Type 0 where
+pub record Meets {X : Type 0} (part : SyntaxPart X) (old new : Parser) (found : X) : Type 0 where
   pub finds : (x : X) (rest : List Token) → old.fault ≡ None → part.behind x (Some old.rest.now) ≡ Some rest → part.May x → part.ends rest ≡ true
       → Finds new rest (part.Same found x)
   pub stands : new.fault ≡ None → part.behind found (Some old.rest.now) ≡ Some new.rest.now
   pub may : new.fault ≡ None → part.May found
 
 -- an `=` and the value, which is the same on all ranks; or none
-abbrev pub otherwise_part : Part (Option Expression)
+abbrev pub otherwise_part : SyntaxPart (Option Expression)
 otherwise_part = record {
   behind = after_optional piece.Equals;
-  May = IfThere (IsWithin 32 true);
+  May = IfThere (IsTreeWithin 32 true);
   Same = Unknown;
   ends = λ rest. stops 4 rest && lacks piece.Equals rest;
 }
 
 -- a name is added to those of parameters, unless memory ran out, which is noted
-abbrev pub Adds : Parser → Parser → ℕ → Type 0
-Adds old new name =
+abbrev pub AddsParameter : Parser → Parser → ℕ → Type 0
+AddsParameter old new name =
     ((new ≡ record old { parameters = new.parameters }) × (new.parameters.items ≡ old.parameters.items ++ name ∷ []))
-    ⊎ (new ≡ record old { parameters = new.parameters; fault = noted old.fault Memory })
+    ⊎ (new ≡ record old { parameters = new.parameters; fault = first_noted old.fault Memory })
 
 abbrev pub is_parameter : Statement → Bool
 is_parameter (statement.Parameter line name e) = true
@@ -60,7 +60,7 @@ pub record MayParameter (names : List ℕ) (s : Statement) : Type 0 where
   pub obeys : ObeyParameters names s
 
 -- a parameter behind its word, which stands on this line
-abbrev pub parameter_part : List ℕ → ℕ → Part Statement
+abbrev pub parameter_part : List ℕ → ℕ → SyntaxPart Statement
 parameter_part names line = record {
   behind = λ s rest. after_statement s (put_back line word.Param rest);
   May = MayParameter names;
@@ -70,11 +70,11 @@ parameter_part names line = record {
 
 -- The parameter is read, and its name is added.
 pub record ReadsParameter (old new : Parser) (line : ℕ) (found : Statement) : Type 0 where
-  pub goes : Grows old new (parameters_of found)
+  pub goes : GrowsByParameters old new (parameters_of found)
   pub meets : Meets (parameter_part old.parameters.items line) old new found
 
 -- parameters behind those of these names, and which names they add
-abbrev pub parameters_part : List ℕ → Part Statement
+abbrev pub parameters_part : List ℕ → SyntaxPart Statement
 parameters_part names = record {
   behind = after_statement;
   May = ObeyParameters names;
@@ -84,7 +84,7 @@ parameters_part names = record {
 
 -- The parameters are read, and their names are added.
 pub record ReadsParameters (old new : Parser) (found : Statement) : Type 0 where
-  pub goes : Grows old new (parameters_of found)
+  pub goes : GrowsByParameters old new (parameters_of found)
   pub meets : Meets (parameters_part old.parameters.items) old new found
 
 -- the end of the text is all that is left
@@ -93,7 +93,7 @@ is_all_read (t ∷ []) = is_piece piece.TextEnd t.piece
 is_all_read _ = false
 
 -- the whole text, up to its end
-abbrev pub text_part : List (Vec ℕ) → Part (Policy × Statement)
+abbrev pub text_part : List (Vec ℕ) → SyntaxPart (Policy × Statement)
 text_part names = record {
   behind = λ both rest. after_statement both.1 (heading_part.behind both.0 rest);
   May = λ both. ObeysText names both.1;

@@ -13,7 +13,7 @@ use Rattle.spmd_text.specs.declared.piece.Token.{Token}
 use Rattle.spmd_text.specs.Spelling.{after_expression, is_condition}
 use Rattle.spmd_text.specs.parts.Joints.{stops}
 use Rattle.spmd_text.specs.Joints.{closeness}
-use Rattle.spmd_text.specs.Limits.{IsWithin}
+use Rattle.spmd_text.specs.Limits.{IsTreeWithin}
 
 -- ---- the reader
 
@@ -27,14 +27,14 @@ abbrev pub next : Parser → Piece
 next s = next_of s.fault s.rest.now
 
 -- what is left behind the next piece
-abbrev pub behind : List Token → List Token
-behind [] = []
-behind (t ∷ ts) = ts
+abbrev pub behind_next : List Token → List Token
+behind_next [] = []
+behind_next (t ∷ ts) = ts
 
 -- the fault that was noted first
-abbrev pub noted : Option ParseReason → ParseReason → Option ParseReason
-noted None why = Some why
-noted (Some first) why = Some first
+abbrev pub first_noted : Option ParseReason → ParseReason → Option ParseReason
+first_noted None why = Some why
+first_noted (Some first) why = Some first
 
 -- a fault that was noted stays the first
 abbrev pub Sticks : Parser → Parser → Type 0
@@ -47,13 +47,13 @@ pub record Goes (old new : Parser) : Type 0 where
   pub sticks : Sticks old new
 
 -- nothing is wrong, and these pieces are left
-pub record Stands (s : Parser) (rest : List Token) : Type 0 where
+pub record StandsBefore (s : Parser) (rest : List Token) : Type 0 where
   pub sound : s.fault ≡ None
   pub left : s.rest.now ≡ rest
 
 -- it was read up to these pieces; or memory ran out
 abbrev pub Finds : Parser → List Token → Type 0 → Type 0
-Finds new rest P = (new.fault ≡ Some Memory) ⊎ (Stands new rest × P)
+Finds new rest P = (new.fault ≡ Some Memory) ⊎ (StandsBefore new rest × P)
 
 -- ---- what is found
 
@@ -73,24 +73,24 @@ pub data Form : Type 0 where
   either : Form → Form → Form
   choice : Form → Form → Form → Form
 
-abbrev pub form_of : Expression → Form
-form_of (form.Literal n) = literal n
-form_of form.Null = null
-form_of form.Rank = rank
-form_of form.Size = size
-form_of (form.Named k) = named k
-form_of (form.Binary' o p a q b) = binary o (form_of a) (form_of b)
-form_of (form.Compare' c p a q b) = compare c (form_of a) (form_of b)
-form_of (form.Negative' p a) = negative (form_of a)
-form_of (form.Grouped' p a) = grouped (form_of a)
-form_of (form.Negation' p a) = negation (form_of a)
-form_of (form.Both' p a q b) = both (form_of a) (form_of b)
-form_of (form.Either' p a q b) = either (form_of a) (form_of b)
-form_of (form.Choice' p c q a s b) = choice (form_of c) (form_of a) (form_of b)
+abbrev pub syntax_form : Expression → Form
+syntax_form (form.Literal n) = literal n
+syntax_form form.Null = null
+syntax_form form.Rank = rank
+syntax_form form.Size = size
+syntax_form (form.Named k) = named k
+syntax_form (form.Binary' o p a q b) = binary o (syntax_form a) (syntax_form b)
+syntax_form (form.Compare' c p a q b) = compare c (syntax_form a) (syntax_form b)
+syntax_form (form.Negative' p a) = negative (syntax_form a)
+syntax_form (form.Grouped' p a) = grouped (syntax_form a)
+syntax_form (form.Negation' p a) = negation (syntax_form a)
+syntax_form (form.Both' p a q b) = both (syntax_form a) (syntax_form b)
+syntax_form (form.Either' p a q b) = either (syntax_form a) (syntax_form b)
+syntax_form (form.Choice' p c q a s b) = choice (syntax_form c) (syntax_form a) (syntax_form b)
 
 -- the trees differ at most in where their boxes stand
 abbrev pub Alike : Expression → Expression → Type 0
-Alike a b = form_of a ≡ form_of b
+Alike a b = syntax_form a ≡ syntax_form b
 
 -- ---- what is ahead
 
@@ -99,11 +99,11 @@ Alike a b = form_of a ≡ form_of b
 pub record Ahead (s : Parser) (depth : ℕ) (e : Expression) (rest : List Token) : Type 0 where
   pub sound : s.fault ≡ None
   pub spelled : after_expression e (Some s.rest.now) ≡ Some rest
-  pub within : IsWithin depth s.in_parameter e
+  pub within : IsTreeWithin depth s.in_parameter e
 
 -- the tree may stand where joints bind at least so close, and no joint follows that does; where a
 -- number has to stand, it is no condition
-pub record MayStand (least : ℕ) (e : Expression) (rest : List Token) : Type 0 where
+pub record MayStandAmongJoints (least : ℕ) (e : Expression) (rest : List Token) : Type 0 where
   pub close : least ≤ closeness e
   pub number : 4 ≤ least → is_condition e ≡ false
   pub ends : stops least rest ≡ true

@@ -18,11 +18,11 @@ use Rattle.spmd_text.specs.declared.piece.Word.TheVariants as word
 use Rattle.spmd_text.specs.declared.piece.Piece.{Piece}
 use Rattle.spmd_text.specs.declared.piece.Piece.TheVariants as piece
 use Rattle.spmd_text.specs.declared.piece.Token.{Token}
-use Rattle.spmd_text.specs.Limits.{IsWithin}
-use Rattle.spmd_text.specs.parts.Reading.{noted}
-use Rattle.spmd_text.specs.Spelling.{Rest, after, after_end, after_gap, after_policy, after_statement, after_value, begins, branch_word, call_word, is_branch, is_tail, policy_word}
-use Rattle.spmd_text.specs.parts.Parts.{Keeps, Part, Reads, any_end}
-use Rattle.spmd_text.specs.Statements.{IsStep, Obeys, Scope, may_give}
+use Rattle.spmd_text.specs.Limits.{IsTreeWithin}
+use Rattle.spmd_text.specs.parts.Reading.{first_noted}
+use Rattle.spmd_text.specs.Spelling.{Rest, after_piece, after_end, after_gap, after_policy, after_statement, after_value, piece_begins, branch_word, call_word, is_branch, is_tail, word_of_policy}
+use Rattle.spmd_text.specs.parts.Parts.{Keeps, SyntaxPart, HasRead, any_end}
+use Rattle.spmd_text.specs.Statements.{IsLoopStep, Obeys, Scope, may_give}
 
 abbrev pub scope_of : Parser → Scope
 scope_of s = record { in_parameter = s.in_parameter; names = s.names.now; parameters = s.parameters.items; loops = s.loops.items }
@@ -60,12 +60,12 @@ is_end piece.TextEnd = true
 is_end _ = false
 
 -- the word that a statement begins with
-abbrev pub word_of : Piece → Option Word
-word_of (piece.Word word.End) = None
-word_of (piece.Word word.Else) = None
-word_of (piece.Word word.Elif) = None
-word_of (piece.Word w) = Some w
-word_of _ = None
+abbrev pub keyword_of : Piece → Option Word
+keyword_of (piece.Word word.End) = None
+keyword_of (piece.Word word.Else) = None
+keyword_of (piece.Word word.Elif) = None
+keyword_of (piece.Word w) = Some w
+keyword_of _ = None
 
 -- no loop, and no branch
 abbrev pub is_simple : Word → Bool
@@ -76,11 +76,11 @@ is_simple word.Else = false
 is_simple _ = true
 
 -- a word that no statement but a call begins with
-abbrev pub is_call : Word → Bool
-is_call word.Let = false
-is_call word.Error = false
-is_call word.Waitall = false
-is_call w = is_simple w
+abbrev pub is_call_word : Word → Bool
+is_call_word word.Let = false
+is_call_word word.Error = false
+is_call_word word.Waitall = false
+is_call_word w = is_simple w
 
 -- the pieces with this word before them
 abbrev pub put_back : ℕ → Word → Rest → Rest
@@ -94,12 +94,12 @@ pub record Begins (scope : Scope) (depth : ℕ) (w : Word) (s : Statement) : Typ
 
 -- a branch behind others is read up to the end of its `if`
 abbrev pub ends_behind : Word → List Token → Bool
-ends_behind word.Elif rest = begins (piece.Word word.End) (Some rest)
-ends_behind word.Else rest = begins (piece.Word word.End) (Some rest)
+ends_behind word.Elif rest = piece_begins (piece.Word word.End) (Some rest)
+ends_behind word.Else rest = piece_begins (piece.Word word.End) (Some rest)
 ends_behind _ rest = true
 
 -- a statement behind its first word, which stands on this line
-abbrev pub begun_part : Scope → ℕ → ℕ → Word → Part Statement
+abbrev pub begun_part : Scope → ℕ → ℕ → Word → SyntaxPart Statement
 begun_part scope depth line w = record {
   behind = λ s rest. after_statement s (put_back line w rest);
   May = Begins scope depth w;
@@ -108,20 +108,20 @@ begun_part scope depth line w = record {
 }
 
 -- a statement from its first word on
-abbrev pub one_part : Scope → ℕ → Word → Part Statement
+abbrev pub one_part : Scope → ℕ → Word → SyntaxPart Statement
 one_part scope depth w = record { behind = after_statement; May = Begins scope depth w; Same = λ a b. Unit {0}; ends = ends_behind w }
 
 -- what ends statements comes next
 abbrev pub ends_statements : List Token → Bool
 ends_statements rest =
-    (begins (piece.Word word.End) (Some rest) || begins (piece.Word word.Else) (Some rest))
-    || (begins (piece.Word word.Elif) (Some rest) || begins piece.TextEnd (Some rest))
+    (piece_begins (piece.Word word.End) (Some rest) || piece_begins (piece.Word word.Else) (Some rest))
+    || (piece_begins (piece.Word word.Elif) (Some rest) || piece_begins piece.TextEnd (Some rest))
 
 pub record MayStatements (scope : Scope) (depth : ℕ) (s : Statement) : Type 0 where
   pub plain : is_branch s ≡ false
   pub obeys : Obeys scope depth s
 
-abbrev pub statements_part : Scope → ℕ → Part Statement
+abbrev pub statements_part : Scope → ℕ → SyntaxPart Statement
 statements_part scope depth = record { behind = after_statement; May = MayStatements scope depth; Same = λ a b. Unit {0}; ends = ends_statements }
 
 pub record MayTail (scope : Scope) (depth : ℕ) (s : Statement) : Type 0 where
@@ -129,45 +129,45 @@ pub record MayTail (scope : Scope) (depth : ℕ) (s : Statement) : Type 0 where
   pub obeys : Obeys scope depth s
 
 -- what stands behind the statements of a branch
-abbrev pub tail_part : Scope → ℕ → Part Statement
+abbrev pub tail_part : Scope → ℕ → SyntaxPart Statement
 tail_part scope depth =
-    record { behind = after_statement; May = MayTail scope depth; Same = λ a b. Unit {0}; ends = λ rest. begins (piece.Word word.End) (Some rest) }
+    record { behind = after_statement; May = MayTail scope depth; Same = λ a b. Unit {0}; ends = λ rest. piece_begins (piece.Word word.End) (Some rest) }
 
 -- the end of a block, or nothing
-abbrev pub end_part : Bool → Part (Unit {0})
+abbrev pub end_part : Bool → SyntaxPart (Unit {0})
 end_part chained = record {
   behind = λ none rest. after_end chained rest;
   May = λ none. Unit {0};
   Same = λ a b. Unit {0};
-  ends = λ rest. not chained || begins (piece.Word word.End) (Some rest);
+  ends = λ rest. not chained || piece_begins (piece.Word word.End) (Some rest);
 }
 
 -- the variable that is given a value, and its `=`
-abbrev pub variable_part : Scope → Part ℕ
+abbrev pub variable_part : Scope → SyntaxPart ℕ
 variable_part scope =
-    record { behind = λ k rest. after piece.Equals (after (piece.Name k) rest); May = λ k. may_give scope k ≡ true; Same = λ a b. a ≡ b; ends = any_end }
+    record { behind = λ k rest. after_piece piece.Equals (after_piece (piece.Name k) rest); May = λ k. may_give scope k ≡ true; Same = λ a b. a ≡ b; ends = any_end }
 
 -- the step of a loop, up to the end of its line
-abbrev pub gap_part : Part ℕ
-gap_part = record { behind = λ n rest. after_gap (pos n) rest; May = IsStep; Same = λ a b. Unit {0}; ends = any_end }
+abbrev pub gap_part : SyntaxPart ℕ
+gap_part = record { behind = λ n rest. after_gap (pos n) rest; May = IsLoopStep; Same = λ a b. Unit {0}; ends = any_end }
 
 pub record MaySpan (in_parameter : Bool) (span : Span) : Type 0 where
-  pub first : IsWithin 32 in_parameter span.first
-  pub last : IsWithin 32 in_parameter span.last
-  pub step : IsStep span.step
+  pub first : IsTreeWithin 32 in_parameter span.first
+  pub last : IsTreeWithin 32 in_parameter span.last
+  pub step : IsLoopStep span.step
 
 -- the values of a loop
-abbrev pub span_part : Bool → Part Span
+abbrev pub span_part : Bool → SyntaxPart Span
 span_part in_parameter = record {
-  behind = λ span rest. after_gap (pos span.step) (after_value span.last (after (piece.Word word.To) (after_value span.first rest)));
+  behind = λ span rest. after_gap (pos span.step) (after_value span.last (after_piece (piece.Word word.To) (after_value span.first rest)));
   May = MaySpan in_parameter;
   Same = λ a b. Unit {0};
-  ends = λ rest. begins piece.LineEnd (Some rest);
+  ends = λ rest. piece_begins piece.LineEnd (Some rest);
 }
 
 -- the number of a step
-abbrev pub step_part : Part ℕ
-step_part = record { behind = λ n rest. after (piece.Number (pos n)) rest; May = IsStep; Same = λ a b. Unit {0}; ends = any_end }
+abbrev pub step_part : SyntaxPart ℕ
+step_part = record { behind = λ n rest. after_piece (piece.Number (pos n)) rest; May = IsLoopStep; Same = λ a b. Unit {0}; ends = any_end }
 
 abbrev pub policy_of : Piece → Option Policy
 policy_of (piece.Word word.Any) = Some policy.Any
@@ -175,21 +175,21 @@ policy_of (piece.Word word.Never) = Some policy.Never
 policy_of (piece.Word word.Always) = Some policy.Always
 policy_of _ = None
 
-abbrev pub policy_part : Part Policy
-policy_part = record { behind = λ p rest. after (piece.Word (policy_word p)) rest; May = λ p. Unit {0}; Same = λ a b. Unit {0}; ends = any_end }
+abbrev pub policy_part : SyntaxPart Policy
+policy_part = record { behind = λ p rest. after_piece (piece.Word (word_of_policy p)) rest; May = λ p. Unit {0}; Same = λ a b. Unit {0}; ends = any_end }
 
 -- the line of the policy, or none
-abbrev pub policy_line_part : Part Policy
+abbrev pub policy_line_part : SyntaxPart Policy
 policy_line_part = record { behind = after_policy; May = λ p. Unit {0}; Same = λ a b. Unit {0}; ends = any_end }
 
 -- the line of the heading
-abbrev pub heading_line_part : Part (Unit {0})
-heading_line_part = record { behind = λ none rest. after piece.LineEnd (after (piece.Word word.Spmd) rest); May = λ none. Unit {0}; Same = λ a b. Unit {0}; ends = any_end }
+abbrev pub heading_line_part : SyntaxPart (Unit {0})
+heading_line_part = record { behind = λ none rest. after_piece piece.LineEnd (after_piece (piece.Word word.Spmd) rest); May = λ none. Unit {0}; Same = λ a b. Unit {0}; ends = any_end }
 
 -- the heading, and the line of the policy
-abbrev pub heading_part : Part Policy
+abbrev pub heading_part : SyntaxPart Policy
 heading_part = record {
-  behind = λ p rest. after_policy p (after piece.LineEnd (after (piece.Word word.Spmd) rest));
+  behind = λ p rest. after_policy p (after_piece piece.LineEnd (after_piece (piece.Word word.Spmd) rest));
   May = λ p. Unit {0};
   Same = λ a b. Unit {0};
   ends = any_end;
@@ -199,24 +199,24 @@ heading_part = record {
 -- as behind the statements.
 pub record IsInside (old new : Parser) (depth : ℕ) (s : Statement) : Type 0 where
   pub mid : Parser
-  pub reads : Reads (statements_part (scope_of old) depth) old mid s
+  pub reads : HasRead (statements_part (scope_of old) depth) old mid s
   pub frame : new ≡ record mid { loops = new.loops }
   pub loops : (outer : List ℕ) (name : ℕ) → mid.loops.items ≡ outer ++ name ∷ [] → new.loops.items ≡ outer
 
 -- what is to be is made, unless memory ran out, which is noted
-abbrev pub Makes : Parser → Parser → Type 0 → Type 0
-Makes old new Made = ((new ≡ old) × Made) ⊎ (new ≡ record old { fault = noted old.fault Memory })
+abbrev pub MakesOrLacksMemory : Parser → Parser → Type 0 → Type 0
+MakesOrLacksMemory old new Made = ((new ≡ old) × Made) ⊎ (new ≡ record old { fault = first_noted old.fault Memory })
 
 -- a statement in memory of its own, or none
-abbrev pub Kept : Type 0
-Kept = Option (Box Statement Global)
+abbrev pub KeptStatement : Type 0
+KeptStatement = Option (Box Statement Global)
 
 -- the statement that is kept; `Nothing`, which means nothing then, where there is none
-abbrev pub held : Kept → Statement
+abbrev pub held : KeptStatement → Statement
 held None = statement.Nothing
 held (Some made) = made.value
 
-abbrev pub held_all : List Kept → List Statement
+abbrev pub held_all : List KeptStatement → List Statement
 held_all list = map held list
 
 -- a request before the others of a list

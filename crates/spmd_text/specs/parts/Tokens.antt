@@ -30,9 +30,9 @@ abbrev pub GivesPlace : Result ℕ Halt → Result ℕ ParseReason → Type 0
 GivesPlace (Ok x) wanted = wanted ≡ Ok x
 GivesPlace (Err h) wanted = Halts {A = ℕ} h wanted
 
-abbrev pub fault_of : Halt → ℕ → TextFault
-fault_of Memory line = fault.Memory
-fault_of (Wrong why) line = fault.Pieces (record { line = line; reason = why })
+abbrev pub fault_of_halt : Halt → ℕ → TextFault
+fault_of_halt Memory line = fault.Memory
+fault_of_halt (Wrong why) line = fault.Pieces (record { line = line; reason = why })
 
 -- the tokens and names are these
 pub record ArePieces (pieces : Pieces) (wanted : Result Cutting ParseFault) : Type 0 where
@@ -42,12 +42,12 @@ pub record ArePieces (pieces : Pieces) (wanted : Result Cutting ParseFault) : Ty
   pub names : map (λ n. n.items) pieces.names.items ≡ state.names
 
 -- where memory lasts, a fault is the first one; no other fault is told
-abbrev pub IsFirst : TextFault → Result Cutting ParseFault → Type 0
-IsFirst fault.Memory wanted = Unit {0}
-IsFirst fault.TooLarge wanted = ⊥
-IsFirst (fault.Pieces f) wanted = wanted ≡ Err f
-IsFirst (fault.Grammar f) wanted = ⊥
+abbrev pub IsFirstPieceFault : TextFault → Result Cutting ParseFault → Type 0
+IsFirstPieceFault fault.Memory wanted = Unit {0}
+IsFirstPieceFault fault.TooLarge wanted = ⊥
+IsFirstPieceFault (fault.Pieces f) wanted = wanted ≡ Err f
+IsFirstPieceFault (fault.Grammar f) wanted = ⊥
 
 abbrev pub GivesPieces : Result Pieces TextFault → Result Cutting ParseFault → Type 0
 GivesPieces (Ok pieces) wanted = ArePieces pieces wanted
-GivesPieces (Err why) wanted = IsFirst why wanted
+GivesPieces (Err why) wanted = IsFirstPieceFault why wanted

@@ -6,13 +6,13 @@ use Rattle.steal.specs.declared.seats.OwnerSeat.{OwnerSeat}
 use Rattle.steal.specs.declared.seats.ThiefSeat.{ThiefSeat}
 use Rattle.steal.specs.Seats.{pushed, popped, stolen, thief_count, IsThiefOf}
 
-abbrev pub rows_of : List (Vec ThiefSeat) → List (List ThiefSeat)
-rows_of vecs = map (λ (row : Vec ThiefSeat). row.items) vecs
+abbrev pub thief_rows : List (Vec ThiefSeat) → List (List ThiefSeat)
+thief_rows vecs = map (λ (row : Vec ThiefSeat). row.items) vecs
 
 -- each row ends in its seat, behind what is left of it
-pub data AreLast : List (List ThiefSeat) → List (List ThiefSeat) → List ThiefSeat → Type 0 where
-  no_row : AreLast [] [] []
-  one_row : {rows left : List (List ThiefSeat)} {seats : List ThiefSeat} (row : List ThiefSeat) (seat : ThiefSeat) → AreLast rows left seats → AreLast ((row ++ seat ∷ []) ∷ rows) (row ∷ left) (seat ∷ seats)
+pub data EndInSeats : List (List ThiefSeat) → List (List ThiefSeat) → List ThiefSeat → Type 0 where
+  no_row : EndInSeats [] [] []
+  one_row : {rows left : List (List ThiefSeat)} {seats : List ThiefSeat} (row : List ThiefSeat) (seat : ThiefSeat) → EndInSeats rows left seats → EndInSeats ((row ++ seat ∷ []) ∷ rows) (row ∷ left) (seat ∷ seats)
 
 -- the owner of an empty deque that was made with so many thieves
 abbrev pub IsFreshOwner : ℕ → OwnerSeat → Type 0

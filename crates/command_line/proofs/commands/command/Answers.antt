@@ -1,12 +1,12 @@
 use Rattle.std.proofs.Common.{◌∙◌, ap, codes}
 use Rattle.clap.specs.Simple.{app_of_fields}
 use Rattle.clap.specs.Words.{new_app}
-use Rattle.command_line.specs.CommandLine.{IsShaped, wants_subcommand, with_version}
+use Rattle.command_line.specs.CommandLine.{IsShapedAs, wants_subcommand, with_version}
 use Rattle.command_line.proofs.commands.command.Goals as goal
 
 pub returns : goal.returns
 returns c =
-    let top : IsShaped c.after_help-top.result (with_version (wants_subcommand (new_app (codes "mpiprove")))) = record {
+    let top : IsShapedAs c.after_help-top.result (with_version (wants_subcommand (new_app (codes "mpiprove")))) = record {
       read_as = ap app_of_fields c.after_help-top.ensures ∙ ap app_of_fields c.subcommand_required.ensures ∙ ap wants_subcommand (ap app_of_fields c.version.ensures ∙ ap with_version c.new.ensures.app);
       own = ap (λ f. f.has_globals) c.after_help-top.ensures ∙ ap (λ f. f.has_globals) c.subcommand_required.ensures ∙ ap (λ f. f.has_globals) c.version.ensures ∙ c.new.ensures.local;
     } in

@@ -1,7 +1,7 @@
 use Rattle.std.proofs.Common.{◌≡◌, map}
 use Rattle.std.specs.List.{range_with_len}
-use Rattle.cubes.specs.Order.{rank_of}
+use Rattle.cubes.specs.Order.{branching_rank_of}
 use Rattle.cubes.proofs.order.ranks.Given as goal
 
 abbrev pub invariant-loop-number : goal.invariant-loop-number
-invariant-loop-number l = l.ranks.items ≡ map (rank_of l.pairs) (range_with_len 0 l.number)
+invariant-loop-number l = l.ranks.items ≡ map (branching_rank_of l.pairs) (range_with_len 0 l.number)

@@ -3,7 +3,7 @@ use Rattle.std.specs.List.{list_any}
 use Rattle.std.proofs.lemmas.Option.{slice_get_read}
 use Rattle.callorder.specs.declared.calls.Call.{Call}
 use Rattle.phase_checker.specs.declared.senders.Senders.{Senders}
-use Rattle.phase_checker.specs.parts.Senders.{is_sent, IsRaised}
+use Rattle.phase_checker.specs.parts.Senders.{is_sent, IsRaisedToPlace}
 use Rattle.phase_checker.proofs.Tables.{IsSendersTo, read_at, senders_done, senders_more, senders_passed}
 use Rattle.phase_checker.proofs.early.senders_of.Goals as goal
 use Rattle.phase_checker.proofs.early.senders_of.Goals.{in-Some+in_ok-put_calls, in_default}
@@ -20,7 +20,7 @@ loop-number-preserved c =
     elim c.match-index.branch [
       | in-Some+in_ok-put_calls w ↦
           let more = w.put_calls.new.self in
-          let raised = subst (λ (z : List Call). IsRaised (λ key. list_any (is_sent key) z) w.in-Some.place old more) w.calls.ensures w.in_ok-put_calls.ensures in
+          let raised = subst (λ (z : List Call). IsRaisedToPlace (λ key. list_any (is_sent key) z) w.in-Some.place old more) w.calls.ensures w.in_ok-put_calls.ensures in
           subst (λ (z : Senders). IsSendersTo phases last z (count + 1)) (sym w.senders-is)
           (senders_more phases last old count c.loop-number.invariant phase here more w.in-Some.place (at ∙ w.in-Some.is) raised)
       | in_default w ↦

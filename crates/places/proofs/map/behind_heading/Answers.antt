@@ -3,7 +3,7 @@ use Rattle.std.proofs.Common.{◌≡◌, ◌∙◌, ◌++◌, ◌∷◌, [], ℕ
 use Rattle.std.proofs.lemmas.List.{append_cancel_right}
 use Rattle.plaintext.specs.TextLines.{text_lines}
 use Rattle.plaintext.proofs.Cuts.{no_line_of}
-use Rattle.places.specs.Maps.{StartsWith, heading}
+use Rattle.places.specs.Maps.{StartsWith, map_heading}
 use Rattle.places.proofs.Faults.{false_true, first_faulty, second_faulty}
 use Rattle.places.proofs.map.behind_heading.Goals as goal
 
@@ -39,7 +39,7 @@ returns-in_default-next_line-clause-fault c = λ text is.
     let one = c.in_default-next_line.ensures.none in (
       behind,
       second_faulty text map behind [] (behind_first map c.in-Some.first.now behind (behind ∷ []) c.in-Some.ensures.some (c.if-not-are_same.ensures.0 refl) one)
-          (λ at. no_line_of behind (heading text ∷ []) one (sym at)),
+          (λ at. no_line_of behind (map_heading text ∷ []) one (sym at)),
       λ e words ends begins. no_line_of behind (words ∷ []) one (sym ends),
     )
 
@@ -51,7 +51,7 @@ returns-then-is_begun-clause-fault c = λ text is.
       second,
       second_faulty text map (second ++ 10 ∷ []) (text_lines c.in-Some-next_line.behind.now)
           (behind_first map c.in-Some.first.now c.in-Some.behind.now lines c.in-Some.ensures.some (c.if-not-are_same.ensures.0 refl) c.in-Some-next_line.ensures.some)
-          (other_line second (heading text) (λ e. false_true (c.if-are_same.ensures.1 (e ∙ sym is)))),
+          (other_line second (map_heading text) (λ e. false_true (c.if-are_same.ensures.1 (e ∙ sym is)))),
       c.if-is_begun.ensures.0 refl,
     )
 
@@ -63,6 +63,6 @@ returns-else-is_begun-clause-fault c = λ text is.
       second ++ 10 ∷ [],
       second_faulty text map (second ++ 10 ∷ []) (text_lines c.in-Some-next_line.behind.now)
           (behind_first map c.in-Some.first.now c.in-Some.behind.now lines c.in-Some.ensures.some (c.if-not-are_same.ensures.0 refl) c.in-Some-next_line.ensures.some)
-          (other_line second (heading text) (λ e. false_true (c.if-are_same.ensures.1 (e ∙ sym is)))),
+          (other_line second (map_heading text) (λ e. false_true (c.if-are_same.ensures.1 (e ∙ sym is)))),
       λ e words ends begins. false_true (c.if-is_begun.ensures.1 (subst (λ (l : List ℕ). StartsWith (codes "of ") l) (sym (append_cancel_right second words (10 ∷ []) ends)) begins)),
     )

@@ -2,7 +2,7 @@
 use Rattle.std.proofs.Common.{◌≡◌, ◌∙◌, ℕ, List, [], ◌++◌, OnOk, Result, Ok, Err, ap, inl, inr, refl, sym, append-nil, append_assoc}
 use Rattle.options.specs.declared.form.Form.{Form}
 use Rattle.places.specs.Maps.{AreFrom, HasEntry}
-use Rattle.places.specs.Woven.{IsSaid, IsTold, marker, place_text}
+use Rattle.places.specs.Woven.{IsSaid, IsToldOfWords, marker, place_text}
 use Rattle.places.specs.declared.map.Places.{Places}
 use Rattle.places.proofs.weaving.put_beside.Goals as goal
 
@@ -11,7 +11,7 @@ more : (old one two now mark digits added : List ℕ) → one ≡ old ++ mark �
 more old one two now mark digits added a b d = simp (append_assoc, d, b, a) refl
 
 placed : {E : Type 0} (r : Result (Unit {0}) E) (form : Form) (digits words short : List ℕ) (places : Places) (old one mid new : List ℕ)
-    → one ≡ old ++ marker form → mid ≡ one ++ digits → OnOk r (new ≡ mid ++ place_text form short) → IsTold form words short
+    → one ≡ old ++ marker form → mid ≡ one ++ digits → OnOk r (new ≡ mid ++ place_text form short) → IsToldOfWords form words short
     → ((map : List ℕ) → AreFrom map places → HasEntry map digits words)
     → OnOk r ((map : List ℕ) → AreFrom map places → (added : List ℕ) × IsSaid form map digits added × (new ≡ old ++ (marker form ++ (digits ++ added))))
 placed (Ok x) form digits words short places old one mid new a b d part has =

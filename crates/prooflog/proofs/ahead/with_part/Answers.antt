@@ -2,14 +2,14 @@ use Rattle.std.proofs.Common.{◌≡◌, ◌≤◌, ◌++◌, length, sym, subst
 use Rattle.std.specs.Option.{IfSome}
 use Rattle.std.proofs.lemmas.Grind.{common_steps}
 use Rattle.std.proofs.lemmas.List.{length-append}
-use Rattle.prooflog.specs.parts.Reading.{HaveReached, IsPart}
+use Rattle.prooflog.specs.parts.Reading.{HaveReached, IsTextPart}
 use Rattle.prooflog.proofs.Parts.{one_more_part}
 use Rattle.prooflog.proofs.ahead.with_part.Goals as goal
 
 pub returns-in-Ok : goal.returns-in-Ok
 returns-in-Ok c =
     let part = c.in-Some.field-0 in
-    let is : IsPart c.args.bytes.now c.in-Some.field-0 = subst (λ found. IfSome found (IsPart c.args.bytes.now)) c.in-Some.is c.requires.part in
+    let is : IsTextPart c.args.bytes.now c.in-Some.field-0 = subst (λ found. IfSome found (IsTextPart c.args.bytes.now)) c.in-Some.is c.requires.part in
     let here : c.in-Some.field-0.start ≡ c.args.used = grind (arith, common_steps, c.if-start-used.false) in
     let reached : HaveReached c.args.bytes.now part.start c.args.lines.now.items = subst (λ place. HaveReached c.args.bytes.now place c.args.lines.now.items) (sym here) c.requires.reached in
     let few : length (c.args.lines.now.items ++ c.in-Some.field-0.lines.items) ≤ 1000000 = grind (arith, common_steps, c.len.ensures, c.len-else-start-used.ensures, c.if-len-gt-MOST_LINES.false, length-append c.args.lines.now.items c.in-Some.field-0.lines.items) in

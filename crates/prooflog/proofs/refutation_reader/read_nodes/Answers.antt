@@ -2,7 +2,7 @@ use Rattle.std.proofs.Common.{◌≡◌, ◌+◌, ◌<◌, ◌≤◌, [], ◌∷
 use Rattle.std.proofs.lemmas.Grind.{common_steps}
 use Rattle.std.proofs.lemmas.List.{length-append}
 use Rattle.plaintext.specs.TextLines.{text_lines}
-use Rattle.refutations.specs.Proofs.{is_number, number_of}
+use Rattle.refutations.specs.Proofs.{is_proof_number, number_of}
 use Rattle.prooflog.specs.Refutations.{item_line, a_node}
 use Rattle.prooflog.proofs.Nodes.{NodesSoFar, one_more_node, nodes_stop_syntax, nodes_stop_after, nodes_stop_range, nodes_stop_large, nodes_unended, nodes_whole, no_node_line, node_line_of, read_node, over_node, first_line}
 use Rattle.prooflog.proofs.refutation_reader.read_nodes.Goals as goal
@@ -32,7 +32,7 @@ pub returns-then-is_beyond-clause-fault : goal.returns-then-is_beyond-clause-fau
 returns-then-is_beyond-clause-fault c =
     let line = c.in-Some-next_line.line.now in
     let read = c.in-Some-node_of.ensures.some in
-    let numbered : is_number (number_of c.in-Some-node_of.node) ≡ true = sym c.is_numbered.ensures ∙ c.if-not-is_numbered.false in
+    let numbered : is_proof_number (number_of c.in-Some-node_of.node) ≡ true = sym c.is_numbered.ensures ∙ c.if-not-is_numbered.false in
     let same : c.in-Some-node_of.node ≡ read.0 = read_node read.0 c.in-Some-node_of.node read.2 numbered in
     let large : (65536 ≤ length c.loop-depth.nodes.items) ⊎ (64 < c.in-Some.depth) = elim (c.is_beyond.ensures.yes c.if-is_beyond.true) [
       | inl h ↦ inl (grind (arith, common_steps, c.len.ensures, h))
@@ -40,13 +40,13 @@ returns-then-is_beyond-clause-fault c =
     ] in
     λ version v clauses lines fits placed. nodes_stop_large c.args.bytes.now c.loop-depth.rest.now c.args.first c.loop-depth.number c.loop-depth.nodes.items c.loop-depth.waiting.items c.loop-depth.invariant
     (line ++ 10 ∷ []) (text_lines c.in-Some-next_line.after.now) c.in-Some-next_line.ensures.some version v clauses lines fits placed c.pop.new.self.items c.in-Some.depth c.in-Some.ensures.items
-    read.0 (node_line_of line read.0 read.1) (ap (λ node. is_number (number_of node)) (sym same) ∙ numbered) large
+    read.0 (node_line_of line read.0 read.1) (ap (λ node. is_proof_number (number_of node)) (sym same) ∙ numbered) large
 
 pub loop-depth-preserved : goal.loop-depth-preserved
 loop-depth-preserved c =
     let line = c.in-Some-next_line.line.now in
     let read = c.in-Some-node_of.ensures.some in
-    let numbered : is_number (number_of c.in-Some-node_of.node) ≡ true = sym c.is_numbered.ensures ∙ c.if-not-is_numbered.false in
+    let numbered : is_proof_number (number_of c.in-Some-node_of.node) ≡ true = sym c.is_numbered.ensures ∙ c.if-not-is_numbered.false in
     let same : c.in-Some-node_of.node ≡ read.0 = read_node read.0 c.in-Some-node_of.node read.2 numbered in
     let inside = c.is_beyond.ensures.no c.if-is_beyond.false in
     let room : length c.loop-depth.nodes.items < 65536 = grind (arith, common_steps, c.len.ensures, inside.0) in

@@ -5,7 +5,7 @@ use Rattle.plaintext.specs.Plain.{numeral}
 use Rattle.plaintext.proofs.FirstFaults.{heads}
 use Rattle.prooflog.specs.Steps.{step_words, buffered_words}
 use Rattle.prooflog.specs.parts.Reading.{words_of, words_after}
-use Rattle.prooflog.specs.Reading.{find_word, find_step}
+use Rattle.prooflog.specs.Reading.{find_word, written_find_step}
 use Rattle.prooflog.specs.declared.step.WrittenStep.{WrittenStep}
 use Rattle.prooflog.specs.declared.step.WrittenStep.TheVariants.{Issue, Match, See}
 use Rattle.prooflog.proofs.StepLines.{find_words, capped_find}
@@ -67,6 +67,6 @@ returns-clause-some c =
     ∙ ap (λ ws. c.cut_word.result.0.now ∷ ws) (c.cut_word-2.ensures.words ∙ ap (λ o. c.cut_word-2.result.0.now ∷ words_after (option_copied o)) c.in_ok-others-2.was) in
     let kind : find_word sees ≡ c.cut_word.result.0.now = c.in_ok-sees.ensures.some in
     let last : numeral finder.0 ∷ [] ≡ words_of c.in_ok-others-2.field-0.now = numeral_only finder.0 c.in_ok-others-2.field-0.now finder.1 in
-    let words : step_words (find_step sees send.0 finder.0) ≡ words_of c.args.line.now =
+    let words : step_words (written_find_step sees send.0 finder.0) ≡ words_of c.args.line.now =
     find_words sees send.0 finder.0 ∙ (λ i. kind i ∷ send.1 i ∷ last i) ∙ sym seen in
-    (find_step sees send.0 finder.0, words, c.find_step.ensures ∙ (λ i. find_step sees (send.2 i) (finder.2 i)) ∙ sym (capped_find sees send.0 finder.0))
+    (written_find_step sees send.0 finder.0, words, c.find_step.ensures ∙ (λ i. written_find_step sees (send.2 i) (finder.2 i)) ∙ sym (capped_find sees send.0 finder.0))

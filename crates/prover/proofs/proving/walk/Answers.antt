@@ -2,7 +2,7 @@ use Rattle.std.proofs.Common.{subst, sym}
 use Rattle.std.specs.Option.{IfNone, IfSome}
 use Rattle.callorder.specs.Programs.{MpiProgram}
 use Rattle.semantics.specs.Machine.{IsStuckRun}
-use Rattle.prover.specs.parts.Searches.{HasFinishedRun}
+use Rattle.prover.specs.parts.Searches.{HasRunThatFinishes}
 use Rattle.prover.proofs.proving.walk.Goals as goal
 
 pub returns-in-Ok-Some-clause-some : goal.returns-in-Ok-Some-clause-some
@@ -16,4 +16,4 @@ returns-in-Ok-Some-clause-some g c = λ text is.
 
 pub returns-in-Ok-None-clause-none : goal.returns-in-Ok-None-clause-none
 returns-in-Ok-None-clause-none g c =
-    subst HasFinishedRun c.deref.ensures (subst (λ o. IfNone o (HasFinishedRun c.deref.result.now)) c.in-Ok-None.field-0-is c.in-Ok-None.ensures.none)
+    subst HasRunThatFinishes c.deref.ensures (subst (λ o. IfNone o (HasRunThatFinishes c.deref.result.now)) c.in-Ok-None.field-0-is c.in-Ok-None.ensures.none)

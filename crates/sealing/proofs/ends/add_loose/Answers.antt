@@ -1,6 +1,6 @@
 use Rattle.std.proofs.Common.{ℕ, Bool, List, Option, sym, subst}
 use Rattle.knowledge.specs.Knowledge.{with_partners}
-use Rattle.sealing.specs.parts.Ends.{Adds, IsUntoldBelow}
+use Rattle.sealing.specs.parts.Ends.{GainsEntries, IsUntoldBelow}
 use Rattle.sealing.proofs.Untold.{IsAllTold, no_finder_more, finder_more}
 use Rattle.sealing.proofs.ends.add_loose.Goals as goal
 
@@ -19,6 +19,6 @@ returns c =
     let told : IsAllTold p (with_partners findings.partners.items) place known =
     subst (λ (z : List (Option ℕ)). IsAllTold p (with_partners z) place known) c.as_slice.ensures.value
     (record { justified = c.in_ok-known.ensures.justified; greatest = c.in_ok-known.ensures.greatest }) in
-    let adds : Adds old new (IsUntoldBelow p findings known finder p.ranks) =
-    subst (λ (z : List Bool). Adds old new (IsUntoldBelow p findings z finder p.ranks)) c.as_slice-3.ensures.value c.in_ok-add_untold.ensures in
+    let adds : GainsEntries old new (IsUntoldBelow p findings known finder p.ranks) =
+    subst (λ (z : List Bool). GainsEntries old new (IsUntoldBelow p findings z finder p.ranks)) c.as_slice-3.ensures.value c.in_ok-add_untold.ensures in
     finder_more p findings known place finder c.requires told (sym c.in-Some.ensures) old new adds

@@ -1,7 +1,7 @@
 -- The answer is one to the whole program, and where the program's file failed, nothing was told.
 use Rattle.std.proofs.Common.{◌≡◌, ◌∙◌, IfErr, IfOk, OnOk, Bool, true, false, ℕ, List, Result, Ok, Err, inl, inr, option_map, refl, subst, sym}
 use Rattle.std.specs.Prelude.{Option}
-use Rattle.prover.specs.Answers.{Answers, FinishesIfUnknown}
+use Rattle.prover.specs.Answers.{IsAnswer, FinishesIfUnknown}
 use Rattle.prover.specs.declared.answer.Answer.{Answer}
 use Rattle.progress.proofs.Tellings.{none_told}
 use Rattle.session.specs.Endings.{IsFollowed}
@@ -17,7 +17,7 @@ use Rattle.session.proofs.commands.prove_page.Goals as goal
 
 -- the page of an answer
 page_told : (tells : Bool) (old between new : List ℕ → Option (List ℕ)) (path : List ℕ) (out : Option (List ℕ)) (budget : ℕ) (json : Bool) (read : List ℕ) (a : Answer)
-    (page : Result Page Stop) → between ≡ old → StandsFor AreAlikePrograms (old path) read → Answers read a → FinishesIfUnknown budget read a
+    (page : Result Page Stop) → between ≡ old → StandsFor AreAlikePrograms (old path) read → IsAnswer read a → FinishesIfUnknown budget read a
     → OnOk page (IsHandedOut tells between new out a) → IfOk page (λ p. IsLine (told_of_answer a) json p.text.items p.status)
     → IfOk page (λ p. IsProved tells old new path out budget json p.text.items p.status)
 page_told tells old between new path out budget json read a (Ok p) same (whole, all, alike) is finishes handed line = (
@@ -33,7 +33,7 @@ page_told tells old between new path out budget json read a (Err e) same stands 
 
 -- a file that failed after that
 stops_told : (reads : List ℕ → Bool) (old between new : List ℕ → Option (List ℕ)) (path : List ℕ) (out : Option (List ℕ)) (read : List ℕ) (a : Answer)
-    (page : Result Page Stop) → between ≡ old → StandsFor AreAlikePrograms (old path) read → Answers read a
+    (page : Result Page Stop) → between ≡ old → StandsFor AreAlikePrograms (old path) read → IsAnswer read a
     → IfErr page (StopsBy (IsEvidenceFile a out) between new) → IfErr page (StopsBy (IsProveFile reads path out old new) old new)
 stops_told reads old between new path out read a (Ok p) same stands is stops = stops
 stops_told reads old between new path out read a (Err stop.Memory) same stands is stops = stops ∙ same

@@ -6,7 +6,7 @@ use Rattle.reports.specs.Trimming.{Shortens}
 use Rattle.reports.specs.declared.trimmed.Shortened.{Shortened}
 use Rattle.session.specs.Lines.{IsLine, line_text, lines_words}
 use Rattle.session.specs.parts.Pages.{StopsBy}
-use Rattle.session.specs.Pages.{IsTrimFile, IsTrimmed, IsWritten}
+use Rattle.session.specs.Pages.{IsTrimFile, IsTrimmedPage, IsWritten}
 use Rattle.session.specs.parts.Texts.{AreAlikeEvidences, StandsFor}
 use Rattle.session.specs.declared.commands.Stop.{Stop}
 use Rattle.session.specs.declared.commands.Stop.TheVariants as stop
@@ -19,7 +19,7 @@ use Rattle.session.proofs.commands.trim_page.Goals as goal
 page_written : (tells : Bool) (old between new : List ℕ → Option (List ℕ)) (evidence_path file evidence : List ℕ) (json : Bool) (s : Shortened) (page : Result Page Stop)
     → AreAll (old evidence_path) evidence → Shortens evidence s → OnOk page (IsWritten tells between new (Some file) s.text.items)
     → IfOk page (λ p. p.text.items ≡ line_text json (lines_words s.before s.after) 0) → IfOk page (λ p. p.status ≡ 0)
-    → IfOk page (λ p. IsTrimmed tells old new evidence_path file json p.text.items p.status)
+    → IfOk page (λ p. IsTrimmedPage tells old new evidence_path file json p.text.items p.status)
 page_written tells old between new evidence_path file evidence json s (Ok p) all shortens written text status = (evidence, all, inl (s, shortens, written, text, status))
 page_written tells old between new evidence_path file evidence json s (Err e) all shortens written text status = text
 

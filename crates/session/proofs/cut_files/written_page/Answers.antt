@@ -1,6 +1,6 @@
 -- The files are those of the cut.
 use Rattle.std.proofs.Common.{List, subst, sym, ℕ}
-use Rattle.session.specs.parts.Phasing.{AreApart, IsPageOf, files_of}
+use Rattle.session.specs.parts.Phasing.{ArePathsApart, IsPageOf, files_of}
 use Rattle.session.specs.Phasing.{ChangesThese, Hold}
 use Rattle.session.specs.declared.cut_files.Output.{Output}
 use Rattle.session.proofs.CutPages.{files_apart, files_within, is_written}
@@ -8,7 +8,7 @@ use Rattle.session.proofs.cut_files.written_page.Goals as goal
 
 pub write_all-requires : goal.write_all-requires
 write_all-requires g c =
-    subst (λ (outputs : List Output). AreApart (files_of outputs)) (sym c.deref-2.ensures.value)
+    subst (λ (outputs : List Output). ArePathsApart (files_of outputs)) (sym c.deref-2.ensures.value)
     (files_apart c.args.folder.now c.in_ok-phases.phases c.in_ok-outputs.outputs c.in_ok-outputs.ensures)
 
 pub returns-in_err-write_all-clause-within : goal.returns-in_err-write_all-clause-within

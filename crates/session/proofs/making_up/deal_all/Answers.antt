@@ -2,7 +2,7 @@
 use Rattle.std.proofs.Common.{◌∙◌, ℕ, ◌+◌, List, take, refl, sym, subst, arith}
 use Rattle.std.proofs.lemmas.List.{take_all, with_items_is}
 use Rattle.phases.specs.Rests.{IsRest}
-use Rattle.session.specs.Phasing.{AreDealt}
+use Rattle.session.specs.Phasing.{AreDealtInOrder}
 use Rattle.session.proofs.MadeUp.{IsDealtTo, dealt_further}
 use Rattle.session.proofs.making_up.deal_all.Goals as goal
 
@@ -26,6 +26,6 @@ returns c =
     let so_far = c.loop-number.invariant in
     let rest = subst (λ (next : List ℕ). IsRest p next so_far.q) (sym c.deref.ensures.value) so_far.rest in (
       so_far.q,
-      subst (λ (numbers : List ℕ). AreDealt c.args.programs.now p numbers so_far.q) (take_all c.loop-number.number-index order (omega (arith, c.loop-number-test.false))) so_far.dealt,
+      subst (λ (numbers : List ℕ). AreDealtInOrder c.args.programs.now p numbers so_far.q) (take_all c.loop-number.number-index order (omega (arith, c.loop-number-test.false))) so_far.dealt,
       (c.is_all_dealt.ensures so_far.q rest).0 c.if-not-is_all_dealt.false,
     )

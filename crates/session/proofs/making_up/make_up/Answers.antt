@@ -1,7 +1,7 @@
 use Rattle.std.proofs.Common.{ℕ, List, subst}
 use Rattle.std.specs.Global.{Vec}
 use Rattle.callorder.specs.Programs.{MpiProgram}
-use Rattle.session.specs.Phasing.{AreDealt, ArePrograms}
+use Rattle.session.specs.Phasing.{AreDealtInOrder, ArePrograms}
 use Rattle.session.proofs.making_up.make_up.Goals as goal
 
 pub returns : goal.returns
@@ -14,7 +14,7 @@ returns c =
       left = left;
       texts = subst (λ (texts : List (Vec ℕ)). ArePrograms texts programs) c.deref.ensures.value c.in_ok-programs.ensures;
       dealt =
-          subst (λ (order : List ℕ). AreDealt programs p order left) c.deref-3.ensures.value
-          (subst (λ (parts : List MpiProgram). AreDealt parts p c.deref-3.result.now left) c.deref-2.ensures.value dealt);
+          subst (λ (order : List ℕ). AreDealtInOrder programs p order left) c.deref-3.ensures.value
+          (subst (λ (parts : List MpiProgram). AreDealtInOrder parts p c.deref-3.result.now left) c.deref-2.ensures.value dealt);
       nothing = nothing;
     }

@@ -6,13 +6,13 @@ use Rattle.clap.specs.declared.error.kind.ErrorKind.{ErrorKind}
 use Rattle.clap.specs.declared.error.kind.ErrorKind.TheVariants.{OutOfMemory}
 use Rattle.command_line.specs.CommandLine.{command_line}
 use Rattle.command_line.specs.Requests.{task_of}
-use Rattle.session.specs.Endings.{EndsByError, Explains, FailsEarly}
+use Rattle.session.specs.Endings.{EndsByError, ExplainsUsage, FailsEarly}
 use Rattle.session.specs.parts.Runs.{on_outputs}
 use Rattle.session.specs.Runs.{SessionRun}
 use Rattle.session.proofs.run.session.Goals as goal
 
 unasked : (words : List Text) (run : SessionRun) (kind : ErrorKind) → (kind ≡ OutOfMemory) ⊎ IsAmong kind (fault_of command_line words)
-    → EndsByError run kind → FailsEarly run ⊎ ((k : ErrorKind) × IsAmong k (fault_of command_line words) × Explains run k)
+    → EndsByError run kind → FailsEarly run ⊎ ((k : ErrorKind) × IsAmong k (fault_of command_line words) × ExplainsUsage run k)
 unasked words run kind fault (inl memory) = inl memory
 unasked words run kind (inl memory) (inr explained) = absurd (explained.0 memory)
 unasked words run kind (inr among) (inr explained) = inr (kind, among, explained.1)

@@ -10,7 +10,7 @@ use Rattle.command_line.specs.Requests.{path_of}
 use Rattle.session.specs.parts.Pages.{StopsBy}
 use Rattle.session.specs.parts.Shrinking.{IsNotSmaller, IsUnshrunkPage}
 use Rattle.session.specs.Shrinking.{AreWritten, Hangs, IsMadeSmaller, IsShrinkFile, IsShrunkTo, IsSmaller, IsSmallerPage}
-use Rattle.session.specs.Unrolling.{IsNamed}
+use Rattle.session.specs.Unrolling.{IsNamedPath}
 use Rattle.session.specs.declared.commands.Stop.{Stop}
 use Rattle.session.specs.declared.commands.Stop.TheVariants as stop
 use Rattle.session.specs.declared.page.Page.{Page}
@@ -40,7 +40,7 @@ page_written tells old between new path out map program smaller lines (Err e) sa
 
 -- a file that failed after that
 stops_written : (reads : List ℕ → Bool) (old between new : List ℕ → Option (List ℕ)) (path : List ℕ) (out map : Option (List ℕ)) (program : List ℕ) (page : Result Page Stop)
-    → between ≡ old → AreAll (old path) program → Hangs program → IfErr page (StopsBy (IsNamed out map) between new)
+    → between ≡ old → AreAll (old path) program → Hangs program → IfErr page (StopsBy (IsNamedPath out map) between new)
     → IfErr page (StopsBy (IsShrinkFile reads path out map old new) old new)
 stops_written reads old between new path out map program (Ok p) same all hangs stops = stops
 stops_written reads old between new path out map program (Err stop.Memory) same all hangs stops = stops ∙ same

@@ -4,9 +4,9 @@ use Rattle.std.specs.Prelude.{Option, is_some}
 use Rattle.std.specs.Borrow.{Bor}
 use Rattle.files.specs.Contents.{AreAll}
 use Rattle.command_line.specs.Requests.{path_of}
-use Rattle.spmd_program.specs.Unrolling.{IsRefusal, IsUnrolling, Tells}
+use Rattle.spmd_program.specs.Unrolling.{IsRefusal, IsUnrolling, TellsRefusal}
 use Rattle.session.specs.parts.Pages.{StopsBy}
-use Rattle.session.specs.Unrolling.{AreWritten, IsNamed, IsProgramPage, IsUnrollFile, IsUnrolledPage}
+use Rattle.session.specs.Unrolling.{AreWritten, IsNamedPath, IsProgramPage, IsUnrollFile, IsUnrolledPage}
 use Rattle.session.specs.declared.commands.Stop.{Stop}
 use Rattle.session.specs.declared.commands.Stop.TheVariants as stop
 use Rattle.session.specs.declared.page.Page.{Page}
@@ -48,7 +48,7 @@ page_made tells old between new path ranks settings barriers out map source prog
 -- a file that failed after that
 stops_made : (reads : List ℕ → Bool) (old between new : List ℕ → Option (List ℕ)) (path : List ℕ) (ranks : ℕ) (settings : List (List ℕ)) (barriers : Bool) (out map : Option (List ℕ)) (source program : List ℕ) (made : Option (List ℕ))
     (page : Result Page Stop) → between ≡ old → AreAll (old path) source → IsUnrolling path source ranks settings barriers (is_some map) program made
-    → IfErr page (StopsBy (IsNamed out map) between new) → IfErr page (StopsBy (IsUnrollFile reads path ranks settings barriers out map old new) old new)
+    → IfErr page (StopsBy (IsNamedPath out map) between new) → IfErr page (StopsBy (IsUnrollFile reads path ranks settings barriers out map old new) old new)
 stops_made reads old between new path ranks settings barriers out map source program made (Ok p) same all is stops = stops
 stops_made reads old between new path ranks settings barriers out map source program made (Err stop.Memory) same all is stops = stops ∙ same
 stops_made reads old between new path ranks settings barriers out map source program made (Err (stop.File file)) same all is stops = inr (stops, (source, program, made, all, is))
@@ -86,7 +86,7 @@ returns-clause-page g c =
             (sym c.deref-in-Err-Refused.ensures.value)
             (subst (λ (ss : List (Bor (List ℕ))). IsRefusal asked.program.now c.deref.result.now asked.ranks (map (λ s. s.now) ss) c.args.barriers c.in-Err-Refused.told.items)
             c.deref-2.ensures.value
-            (subst (Tells (IsRefusal asked.program.now c.deref.result.now asked.ranks (map (λ s. s.now) c.deref-2.result.now) c.args.barriers)) c.in-Err-Refused.field-0-is
+            (subst (TellsRefusal (IsRefusal asked.program.now c.deref.result.now asked.ranks (map (λ s. s.now) c.deref-2.result.now) c.args.barriers)) c.in-Err-Refused.field-0-is
             c.in-Err-Refused.ensures.refused)),
         c.in_ok-source.ensures.same,
         c.in_ok-refused_page-in-Err-Refused.ensures.text,

@@ -3,12 +3,12 @@ use Rattle.spmd_text.specs.declared.parser.Parser.{Parser}
 use Rattle.spmd_text.specs.declared.piece.Token.{Token}
 use Rattle.spmd_text.specs.declared.piece.Word.{Word}
 use Rattle.spmd_text.specs.declared.piece.Word.TheVariants as word
-use Rattle.spmd_text.specs.parts.Parts.{Reads}
+use Rattle.spmd_text.specs.parts.Parts.{HasRead}
 use Rattle.spmd_text.specs.declared.piece.Piece.TheVariants as piece
 use Rattle.spmd_text.specs.parts.Lines as lines
-use Rattle.spmd_text.specs.parts.Lines.{Level, Tells, from_word, level_at}
-use Rattle.spmd_text.specs.parts.Statements.{Kept, MayStatements, RowSoFar, begun_part, held, held_all, is_end, put_back, scope_of, span_part, statements_part, tail_part, word_of}
-use Rattle.spmd_text.specs.Statements.{line_at, within_loop}
+use Rattle.spmd_text.specs.parts.Lines.{Level, TellsLine, from_word, level_at}
+use Rattle.spmd_text.specs.parts.Statements.{KeptStatement, MayStatements, RowSoFar, begun_part, held, held_all, is_end, put_back, scope_of, span_part, statements_part, tail_part, keyword_of}
+use Rattle.spmd_text.specs.Statements.{line_of_first_piece, within_loop}
 use Rattle.spmd_text.proofs.BlockForms.{body_read, elif_as, else_as, end_behind, first_simple, line_end_condition, loop_head_parts, name_read, next_begins, next_shorter, no_memory, otherwise_back, otherwise_so, put_back_is, reads_begun, reads_then_on, repeat_back, repeat_none, repeat_so, span_strict, tail_none, when_back, when_none, when_so}
 use Rattle.spmd_text.proofs.BlockLines.{branch_tells, else_shut, else_then_tells, head_deep_tells, kept_ends, lines_begun, lines_ended, lines_more, loop_deep_tells, loop_tells, made_ends, none_ends, simple_tells, tells_begun, when_ends}
 use Rattle.spmd_text.proofs.BlockWords.{end_ends, end_strict, statement_strict, tail_ends}
@@ -64,11 +64,11 @@ for_loop-returns-then-depth-eq0-clause-reads t c =
 
 pub rest_of_statement-returns-in-For-clause-reads : goal.rest_of_statement-returns-in-For-clause-reads
 rest_of_statement-returns-in-For-clause-reads t c first =
-    subst (λ (w : Word). Reads (begun_part (scope_of c.args.parser.now) c.args.depth c.args.line w) c.args.parser.now c.for_loop.new.parser (held c.for_loop.result)) (sym c.in-For.is) c.for_loop.ensures.reads
+    subst (λ (w : Word). HasRead (begun_part (scope_of c.args.parser.now) c.args.depth c.args.line w) c.args.parser.now c.for_loop.new.parser (held c.for_loop.result)) (sym c.in-For.is) c.for_loop.ensures.reads
 
 pub rest_of_statement-returns-in-If-clause-reads : goal.rest_of_statement-returns-in-If-clause-reads
 rest_of_statement-returns-in-If-clause-reads t c first =
-    subst (λ (w : Word). Reads (begun_part (scope_of c.args.parser.now) c.args.depth c.args.line w) c.args.parser.now c.branch-parser.new.parser (held c.branch-parser.result)) (sym c.in-If.is) c.branch-parser.ensures.reads
+    subst (λ (w : Word). HasRead (begun_part (scope_of c.args.parser.now) c.args.depth c.args.line w) c.args.parser.now c.branch-parser.new.parser (held c.branch-parser.result)) (sym c.in-If.is) c.branch-parser.ensures.reads
 
 pub rest_of_statement-returns-in_default-clause-reads : goal.rest_of_statement-returns-in_default-clause-reads
 rest_of_statement-returns-in_default-clause-reads t c first = c.simple.ensures c.args.depth (first_simple c.args.word first c.in_default.not-For c.in_default.not-If)
@@ -80,7 +80,7 @@ statement-returns-clause-reads t c first is =
     reads_begun goes (λ sound. c.step.ensures.fault ∙ sound)
     (λ sound.
     ap (λ (n : ℕ). put_back n c.args.word (Some c.step.new.self.rest.now)) c.line-line.ensures
-    ∙ (ap (λ (z : List Token). put_back (line_at old.rest.now) c.args.word (Some z)) c.step.ensures.left
+    ∙ (ap (λ (z : List Token). put_back (line_of_first_piece old.rest.now) c.args.word (Some z)) c.step.ensures.left
     ∙ put_back_is c.args.word old.rest.now (next_begins c.args.word old.fault old.rest.now sound is)))
     (on_scope (λ scope. begun_part scope c.args.depth c.line-line.result c.args.word) goes (c.rest_of_statement.ensures.reads first))
 
@@ -112,7 +112,7 @@ tail-returns-then-take-clause-reads t c =
     (reads_begun goes (λ sound. passed.0 ∙ sound)
     (λ sound.
     ap (λ (n : ℕ). put_back n word.Elif (Some c.take.new.self.rest.now)) c.line-line.ensures
-    ∙ (ap (λ (z : List Token). put_back (line_at old.rest.now) word.Elif (Some z)) passed.1
+    ∙ (ap (λ (z : List Token). put_back (line_of_first_piece old.rest.now) word.Elif (Some z)) passed.1
     ∙ put_back_is word.Elif old.rest.now (c.if-take.ensures.there refl sound refl)))
     (on_scope (λ scope. begun_part scope c.args.depth c.line-line.result word.Elif) goes c.branch-parser.ensures.reads))
 
@@ -121,14 +121,14 @@ tail-returns-then-take-2-clause-reads t c =
     let mid : Parser = c.take.new.self in
     let goes = keeps_of c.take-2.ensures.goes in
     let passed = c.if-take-2.ensures.passed refl in
-    let line : ℕ = line_at mid.rest.now in
+    let line : ℕ = line_of_first_piece mid.rest.now in
     let read = reads_as (else_as mid c.args.depth (held c.after_else.result) (λ sound. c.if-take-2.ensures.there refl sound refl))
     (reads_begun goes (λ sound. passed.0 ∙ sound)
     (λ sound.
     ap (λ (z : List Token). put_back line word.Else (Some z)) passed.1
     ∙ put_back_is word.Else mid.rest.now (c.if-take-2.ensures.there refl sound refl))
     (on_scope (λ scope. begun_part scope c.args.depth line word.Else) goes (c.after_else.ensures.reads line))) in
-    subst (λ (p : Parser). Reads (tail_part (scope_of p) c.args.depth) p c.after_else.new.parser (held c.after_else.result)) (c.if-take.ensures.left refl) read
+    subst (λ (p : Parser). HasRead (tail_part (scope_of p) c.args.depth) p c.after_else.new.parser (held c.after_else.result)) (c.if-take.ensures.left refl) read
 
 pub tail-returns-clause-reads : goal.tail-returns-clause-reads
 tail-returns-clause-reads t c =
@@ -140,16 +140,16 @@ tail-returns-clause-reads t c =
 
 pub statements-loop-word-init : goal.statements-loop-word-init
 statements-loop-word-init t c = record {
-  row = subst (λ (list : List Kept). RowSoFar c.args.parser.now c.args.parser.now c.args.depth (held_all list)) (sym c.new-list.ensures.items) (row_begun c.args.parser.now c.args.depth);
+  row = subst (λ (list : List KeptStatement). RowSoFar c.args.parser.now c.args.parser.now c.args.depth (held_all list)) (sym c.new-list.ensures.items) (row_begun c.args.parser.now c.args.depth);
   lines = lines_begun c.args.parser.now c.args.depth c.args.at.now;
 }
 
 pub statements-loop-word-preserved : goal.statements-loop-word-preserved
 statements-loop-word-preserved t c =
-    let is = ap word_of (sym c.piece.ensures) ∙ (sym c.word_of.ensures ∙ c.in-Some.is) in
+    let is = ap keyword_of (sym c.piece.ensures) ∙ (sym c.word_of.ensures ∙ c.in-Some.is) in
     let known = word_of_is (next c.loop-word.parser) c.in-Some.word is in
     let reads = c.statement-statement.ensures.reads known.1 known.0 in
-    let so = ap word_of (sym known.0) ∙ is in
+    let so = ap keyword_of (sym known.0) ∙ is in
     record {
       row = row_more c.in-Some.word (held c.statement-statement.result) c.loop-word.invariant.row is reads c.add.ensures;
       lines = lines_more c.in-Some.word c.loop-word.invariant.lines c.loop-word.invariant.row.goes known.1 reads
@@ -158,14 +158,14 @@ statements-loop-word-preserved t c =
 
 pub statements-loop-word-smaller : goal.statements-loop-word-smaller
 statements-loop-word-smaller t c =
-    let is = ap word_of (sym c.piece.ensures) ∙ (sym c.word_of.ensures ∙ c.in-Some.is) in
+    let is = ap keyword_of (sym c.piece.ensures) ∙ (sym c.word_of.ensures ∙ c.in-Some.is) in
     let known = word_of_is (next c.loop-word.parser) c.in-Some.word is in
     let goes = made_goes c.add.ensures in
     omega (arith, goes.shorter, c.statement-statement.ensures.shorter known.1 known.0)
 
 pub statements-returns-clause-reads : goal.statements-returns-clause-reads
 statements-returns-clause-reads t c =
-    row_ended (held c.whole.result) c.loop-word.invariant.row (ap word_of (sym c.piece.ensures) ∙ (sym c.word_of.ensures ∙ c.in_default.is)) (keeps_of c.refuse_other.ensures.goes) c.refuse_other.ensures.sound c.refuse_other.ensures.fits c.whole.ensures
+    row_ended (held c.whole.result) c.loop-word.invariant.row (ap keyword_of (sym c.piece.ensures) ∙ (sym c.word_of.ensures ∙ c.in_default.is)) (keeps_of c.refuse_other.ensures.goes) c.refuse_other.ensures.sound c.refuse_other.ensures.fits c.whole.ensures
 
 pub statements-returns-clause-stays : goal.statements-returns-clause-stays
 statements-returns-clause-stays t c why e =
@@ -173,7 +173,7 @@ statements-returns-clause-stays t c why e =
 
 pub statements-returns-clause-line : goal.statements-returns-clause-line
 statements-returns-clause-line t c =
-    lines_ended c.loop-word.invariant.lines (ap word_of (sym c.piece.ensures) ∙ (sym c.word_of.ensures ∙ c.in_default.is)) c.refuse_other.ensures.goes.sticks c.refuse_other.ensures.fits
+    lines_ended c.loop-word.invariant.lines (ap keyword_of (sym c.piece.ensures) ∙ (sym c.word_of.ensures ∙ c.in_default.is)) c.refuse_other.ensures.goes.sticks c.refuse_other.ensures.fits
     c.begin_line.ensures.sound c.begin_line.ensures.stays c.whole.ensures
 
 pub statements-returns-clause-ended : goal.statements-returns-clause-ended
@@ -266,12 +266,12 @@ rest_of_statement-returns-in_default-clause-stays t c why e = refl
 
 pub rest_of_statement-returns-in-For-clause-line : goal.rest_of_statement-returns-in-For-clause-line
 rest_of_statement-returns-in-For-clause-line t c block outer is w told =
-    subst (λ (v : Word). Tells (level_at block c.args.parser.now c.args.depth ∷ outer) c.args.parser.now c.for_loop.new.parser (from_word c.args.line v c.args.parser.now) c.for_loop.new.at) (sym c.in-For.is)
+    subst (λ (v : Word). TellsLine (level_at block c.args.parser.now c.args.depth ∷ outer) c.args.parser.now c.for_loop.new.parser (from_word c.args.line v c.args.parser.now) c.for_loop.new.at) (sym c.in-For.is)
     (c.for_loop.ensures.line block outer is told)
 
 pub rest_of_statement-returns-in-If-clause-line : goal.rest_of_statement-returns-in-If-clause-line
 rest_of_statement-returns-in-If-clause-line t c block outer is w told =
-    subst (λ (v : Word). Tells (level_at block c.args.parser.now c.args.depth ∷ outer) c.args.parser.now c.branch-parser.new.parser (from_word c.args.line v c.args.parser.now) c.branch-parser.new.at) (sym c.in-If.is)
+    subst (λ (v : Word). TellsLine (level_at block c.args.parser.now c.args.depth ∷ outer) c.args.parser.now c.branch-parser.new.parser (from_word c.args.line v c.args.parser.now) c.branch-parser.new.at) (sym c.in-If.is)
     (c.branch-parser.ensures.line block outer is told)
 
 pub rest_of_statement-returns-in_default-clause-line : goal.rest_of_statement-returns-in_default-clause-line
@@ -288,7 +288,7 @@ statement-returns-clause-line t c block outer settled w is =
     tells_begun c.rest_of_statement.new.parser c.args.word block outer c.args.depth (keeps_of c.step.ensures.goes) (λ sound. c.step.ensures.fault ∙ sound)
     (λ sound.
     ap (λ (n : ℕ). put_back n c.args.word (Some c.step.new.self.rest.now)) c.line-line.ensures
-    ∙ (ap (λ (z : List Token). put_back (line_at old.rest.now) c.args.word (Some z)) c.step.ensures.left
+    ∙ (ap (λ (z : List Token). put_back (line_of_first_piece old.rest.now) c.args.word (Some z)) c.step.ensures.left
     ∙ put_back_is c.args.word old.rest.now (next_begins c.args.word old.fault old.rest.now sound is)))
     (λ sound. c.rest_of_statement.ensures.line block outer settled w (c.begin_line.ensures.sound sound ∙ sym c.line-line.ensures))
 
@@ -308,7 +308,7 @@ pub body_of-returns-in-Ok-clause-line : goal.body_of-returns-in-Ok-clause-line
 body_of-returns-in-Ok-clause-line t c block outer is =
     let old : Parser = c.args.parser.now in
     let pushed : Parser = record old { loops = c.push.new.self } in
-    subst (λ (n : List ℕ). Tells (record { block = block; scope = record { in_parameter = old.in_parameter; names = old.names.now; parameters = old.parameters.items; loops = n }; depth = c.args.depth } ∷ outer) pushed c.inside.new.parser old.rest.now c.inside.new.at) c.in-Ok.ensures.items
+    subst (λ (n : List ℕ). TellsLine (record { block = block; scope = record { in_parameter = old.in_parameter; names = old.names.now; parameters = old.parameters.items; loops = n }; depth = c.args.depth } ∷ outer) pushed c.inside.new.parser old.rest.now c.inside.new.at) c.in-Ok.ensures.items
     (c.inside.ensures.line block outer is)
 
 pub body_of-returns-in-Ok-clause-ended : goal.body_of-returns-in-Ok-clause-ended
@@ -337,7 +337,7 @@ tail-returns-then-take-clause-line t c outer =
     tells_begun c.branch-parser.new.parser word.Elif lines.branch outer c.args.depth (keeps_of c.take.ensures.goes) (λ sound. passed.0 ∙ sound)
     (λ sound.
     ap (λ (n : ℕ). put_back n word.Elif (Some c.take.new.self.rest.now)) c.line-line.ensures
-    ∙ (ap (λ (z : List Token). put_back (line_at old.rest.now) word.Elif (Some z)) passed.1
+    ∙ (ap (λ (z : List Token). put_back (line_of_first_piece old.rest.now) word.Elif (Some z)) passed.1
     ∙ put_back_is word.Elif old.rest.now (c.if-take.ensures.there refl sound refl)))
     (λ sound. c.branch-parser.ensures.line lines.branch outer refl (c.begin_line.ensures.sound sound ∙ sym c.line-line.ensures))
 
@@ -354,13 +354,13 @@ tail-returns-then-take-2-clause-line t c outer =
     let mid : Parser = c.take.new.self in
     let kept : mid ≡ old = c.if-take.ensures.left refl in
     let passed = c.if-take-2.ensures.passed refl in
-    let line : ℕ = line_at mid.rest.now in
+    let line : ℕ = line_of_first_piece mid.rest.now in
     let tells = tells_begun c.after_else.new.parser word.Else lines.branch outer c.args.depth (keeps_of c.take-2.ensures.goes) (λ sound. passed.0 ∙ sound)
     (λ sound.
     ap (λ (z : List Token). put_back line word.Else (Some z)) passed.1
     ∙ put_back_is word.Else mid.rest.now (c.if-take-2.ensures.there refl sound refl))
-    (λ sound. c.after_else.ensures.line line outer (c.begin_line.ensures.sound (sym (ap (λ (p : Parser). p.fault) kept) ∙ sound) ∙ ap (λ (p : Parser). line_at p.rest.now) (sym kept))) in
-    subst (λ (p : Parser). Tells (level_at lines.branch p c.args.depth ∷ outer) p c.after_else.new.parser p.rest.now c.after_else.new.at) kept tells
+    (λ sound. c.after_else.ensures.line line outer (c.begin_line.ensures.sound (sym (ap (λ (p : Parser). p.fault) kept) ∙ sound) ∙ ap (λ (p : Parser). line_of_first_piece p.rest.now) (sym kept))) in
+    subst (λ (p : Parser). TellsLine (level_at lines.branch p c.args.depth ∷ outer) p c.after_else.new.parser p.rest.now c.after_else.new.at) kept tells
 
 pub tail-returns-then-take-2-clause-ends : goal.tail-returns-then-take-2-clause-ends
 tail-returns-then-take-2-clause-ends t c before sound = record {

@@ -3,9 +3,9 @@ use Rattle.spmd_text.specs.declared.parser.Parser.{Parser}
 use Rattle.spmd_text.specs.declared.piece.Token.{Token}
 use Rattle.spmd_text.specs.declared.piece.Word.TheVariants as word
 use Rattle.spmd_text.specs.declared.piece.Piece.TheVariants as piece
-use Rattle.spmd_text.specs.Spelling.{begins}
-use Rattle.spmd_text.specs.parts.Statements.{Kept, held, held_all, put_back}
-use Rattle.spmd_text.specs.Statements.{line_at}
+use Rattle.spmd_text.specs.Spelling.{piece_begins}
+use Rattle.spmd_text.specs.parts.Statements.{KeptStatement, held, held_all, put_back}
+use Rattle.spmd_text.specs.Statements.{line_of_first_piece}
 use Rattle.spmd_text.proofs.BlockForms.{put_back_is}
 use Rattle.spmd_text.proofs.LeftOut.{next_word_shorter, not_next}
 use Rattle.spmd_text.proofs.Made.{made_goes, made_sound}
@@ -18,7 +18,7 @@ use Rattle.spmd_text.proofs.blocks.parameters.Goals as goal
 
 pub loop-parser-init : goal.loop-parser-init
 loop-parser-init c unset = (
-  subst (λ (list : List Kept). ParametersSoFar c.args.parser.now c.args.parser.now (held_all list)) (sym c.new-list.ensures.items) (parameters_begun c.args.parser.now),
+  subst (λ (list : List KeptStatement). ParametersSoFar c.args.parser.now c.args.parser.now (held_all list)) (sym c.new-list.ensures.items) (parameters_begun c.args.parser.now),
   parameter_lines_begun c.args.parser.now c.args.at.now,
 )
 
@@ -31,7 +31,7 @@ loop-parser-preserved c unset =
     let item = reads_one goes (λ sound. c.step.ensures.fault ∙ sound)
     (λ sound.
     ap (λ (n : ℕ). put_back n word.Param (Some c.step.new.self.rest.now)) c.line-line.ensures
-    ∙ (ap (λ (z : List Token). put_back (line_at s.rest.now) word.Param (Some z)) c.step.ensures.left
+    ∙ (ap (λ (z : List Token). put_back (line_of_first_piece s.rest.now) word.Param (Some z)) c.step.ensures.left
     ∙ put_back_is word.Param s.rest.now (next_here s.fault s.rest.now is sound)))
     (c.parameter-statement.ensures.reads (goes.in_parameter ∙ (so_far.goes.in_parameter ∙ unset))) in (
       parameters_more (held c.parameter-statement.result) so_far is item c.add.ensures,
@@ -56,5 +56,5 @@ returns-clause-line c block depth early unset = tells_made c.args.parser.now ((c
 pub returns-clause-ended : goal.returns-clause-ended
 returns-clause-ended c sound =
     let m = made_sound c.whole.ensures sound in
-    ap (λ (p : Parser). begins (piece.Word word.Param) (Some p.rest.now)) m.0
+    ap (λ (p : Parser). piece_begins (piece.Word word.Param) (Some p.rest.now)) m.0
     ∙ not_next word.Param c.loop-parser.parser.fault c.loop-parser.parser.rest.now (sym c.is.ensures ∙ c.loop-parser-test.false) (sound_by c.loop-parser.parser c.whole.new.parser (made_goes c.whole.ensures).sticks sound)

@@ -1,6 +1,6 @@
 use Rattle.std.proofs.Common.{◌≡◌, ℕ, ◌+◌, ◌-◌, arith, refl, ap, subst}
 use Rattle.spmd_text.specs.declared.parser.Parser.{Parser}
-use Rattle.spmd_text.specs.parts.Parts.{Reads, labels_part}
+use Rattle.spmd_text.specs.parts.Parts.{HasRead, labels_part}
 use Rattle.spmd_text.proofs.Following.{comma_unindexed, never_taken}
 use Rattle.spmd_text.proofs.Going.{goes_failed}
 use Rattle.spmd_text.proofs.LabelForms.{labels_last, labels_more, labels_too_long}
@@ -25,7 +25,7 @@ returns t c =
     let comma = c.if-not-take.ensures.reads refl refl in
     let two = reads_then (λ y. refl) (λ y here rest may e ends. comma_unindexed here rest e) one comma in
     let as_many : (c.args.most - 1) + 1 ≡ c.args.most = omega (arith, c.if-most-eq0.false) in
-    let others = subst (λ (n : ℕ). Reads (labels_part c.take.new.self.in_parameter c.take.new.self.names.now n) c.take.new.self c.labels-others.new.parser c.labels-others.result) as_many c.labels-others.ensures in
+    let others = subst (λ (n : ℕ). HasRead (labels_part c.take.new.self.in_parameter c.take.new.self.names.now n) c.take.new.self c.labels-others.new.parser c.labels-others.result) as_many c.labels-others.ensures in
     let three = reads_then labels_strict (λ y here rest may e ends. refl) two (on_names (λ flag names. labels_part flag names c.args.most) two.goes others) in
     labels_more c.label-form.result c.labels-others.result c.more.result c.args.most one
     (keeps_on comma.goes others.goes) (λ sound. c.if-not-take.ensures.there refl sound refl) three c.more.ensures

@@ -5,7 +5,7 @@ use Rattle.spmd_text.specs.declared.fault.ParseFault.{ParseFault}
 use Rattle.spmd_text.specs.declared.fault.ParseReason.{ParseReason}
 use Rattle.spmd_text.specs.declared.fault.TextFault.{TextFault}
 use Rattle.spmd_text.specs.parts.Tokens.{GivesPieces, seen}
-use Rattle.spmd_text.specs.Tokens.{Cutting, pieces_of, finished, lined}
+use Rattle.spmd_text.specs.Tokens.{Cutting, pieces_of, text_finished, lined}
 use Rattle.spmd_text.proofs.Feeding.{feed_goes, feed_halts, feed_ends, told}
 use Rattle.spmd_text.proofs.cutting.cut.Goals as goal
 
@@ -31,7 +31,7 @@ returns-in-Err-finish c =
     let i : ℕ = c.loop-byte.byte-index in
     let whole : Result Cutting ParseFault = pieces_of bytes in
     subst (λ (f : TextFault). GivesPieces (Err f) whole) (sym c.fault_of-in-Err-finish.ensures)
-    (told c.in-Err-finish.halt c.loop-byte.lexer.line (finished (seen c.loop-byte.lexer)) (λ (t : Cutting). Ok t) whole
+    (told c.in-Err-finish.halt c.loop-byte.lexer.line (text_finished (seen c.loop-byte.lexer)) (λ (t : Cutting). Ok t) whole
     (feed_ends (drop i bytes) (seen c.loop-byte.lexer) whole c.loop-byte.invariant (drop_all i bytes (omega (arith, c.loop-byte-test.false)))) c.in-Err-finish.ensures)
 
 pub returns-in-Ok-finish : goal.returns-in-Ok-finish

@@ -5,11 +5,11 @@ use Rattle.spmd_text.specs.declared.parser.Parser.{Parser}
 use Rattle.spmd_text.specs.declared.piece.Piece.TheVariants as piece
 use Rattle.spmd_text.specs.declared.piece.Word.TheVariants as word
 use Rattle.spmd_text.specs.declared.piece.Token.{Token}
-use Rattle.spmd_text.specs.Spelling.{after}
+use Rattle.spmd_text.specs.Spelling.{after_piece}
 use Rattle.spmd_text.specs.parts.Joints.{binding_of, joint_ahead, joint_of, stops}
 use Rattle.spmd_text.specs.Joints.{closeness}
 use Rattle.spmd_text.specs.parts.Growing.{beginning_of, begun, done, enclosed, Growing, Becomes, MayBegin}
-use Rattle.spmd_text.specs.parts.Reading.{Ahead, Alike, Finds, Goes, MayStand}
+use Rattle.spmd_text.specs.parts.Reading.{Ahead, Alike, Finds, Goes, MayStandAmongJoints}
 use Rattle.spmd_text.proofs.Alike.{alike_condition}
 use Rattle.spmd_text.proofs.Beginning.{begun_of, first_row}
 use Rattle.spmd_text.proofs.Continuing.{may_lengthen, row_found, ended, grown, inner, opening_at, begun_prefix, begun_choice, least_ahead, choice_ahead, stepped, ahead_at}
@@ -28,7 +28,7 @@ behind_prefix-returns-clause-complete t c = λ a p rest ahead may.
     found_then c.expression-inner.new.parser c.put_prefix.new.parser i.behind rest (Alike c.expression-inner.result a) (Alike c.put_prefix.result (enclosed c.args.prefix p a))
     (c.expression-inner.ensures.complete a i.behind
     (ahead_at old c.step.new.self (c.args.depth - 1) a i.first i.behind c.step.ensures.goes stands i.spelled i.within)
-    (subst (λ (k : ℕ). MayStand k a i.behind) (sym c.inside.ensures) i.stand))
+    (subst (λ (k : ℕ). MayStandAmongJoints k a i.behind) (sym c.inside.ensures) i.stand))
     c.put_prefix.ensures.goes.sticks
     (λ stands alike. c.put_prefix.ensures.prefixed a p i.behind rest stands alike i.ends)
 
@@ -57,12 +57,12 @@ choice_at-returns-clause-complete t c = λ d a b p q s rest ahead stop.
     g17.sticks
     (λ stands1 alike1.
     let stands2 = stands_same s1 s2 parts.condition_end (c.want.ensures.right (alike_condition c.expression-condition.result d alike1 ∙ i.is_condition_so)) stands1 in
-    let stands3 = c.expect.ensures.taken parts.second stands2.sound (ap (λ (x : List Token). after (piece.Word word.Then) (Some x)) stands2.left ∙ parts.then_so) in
+    let stands3 = c.expect.ensures.taken parts.second stands2.sound (ap (λ (x : List Token). after_piece (piece.Word word.Then) (Some x)) stands2.left ∙ parts.then_so) in
     found_then s4 s7 parts.yes_end rest (Alike c.expression-yes.result a) whole
     (c.expression-yes.ensures.complete a parts.yes_end (ahead_at old s3 (c.args.depth - 1) a parts.second parts.yes_end g3 stands3 parts.yes_so i.yes) i.yes_stands)
     g47.sticks
     (λ stands4 alike4.
-    let stands5 = c.expect-2.ensures.taken parts.third stands4.sound (ap (λ (x : List Token). after (piece.Word word.Else) (Some x)) stands4.left ∙ parts.else_so) in
+    let stands5 = c.expect-2.ensures.taken parts.third stands4.sound (ap (λ (x : List Token). after_piece (piece.Word word.Else) (Some x)) stands4.left ∙ parts.else_so) in
     found_then s6 s7 rest rest (Alike c.expression-no.result b) whole
     (c.expression-no.ensures.complete b rest (ahead_at old s5 (c.args.depth - 1) b parts.third rest g5 stands5 parts.no_so i.no) i.no_stands)
     g67.sticks

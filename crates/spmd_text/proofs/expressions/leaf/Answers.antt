@@ -6,7 +6,7 @@ use Rattle.spmd_text.specs.declared.parser.Parser.{Parser}
 use Rattle.spmd_text.specs.declared.piece.Piece.TheVariants as piece
 use Rattle.spmd_text.specs.declared.piece.Word.TheVariants as word
 use Rattle.spmd_text.specs.parts.Growing.{leaf_of}
-use Rattle.spmd_text.specs.parts.Reading.{next, behind, form_of}
+use Rattle.spmd_text.specs.parts.Reading.{next, behind_next, syntax_form}
 use Rattle.spmd_text.proofs.Beginning.{leaf_at}
 use Rattle.spmd_text.proofs.Found.{leaf_begun}
 use Rattle.spmd_text.proofs.expressions.leaf.Goals as goal
@@ -23,7 +23,7 @@ returns-in-Some-clause-leaf c = λ depth a rest ahead operand leaf.
     let l = leaf_at c.args.parser.now depth a rest ahead operand leaf in
     let is : Some c.in-Some.leaf ≡ Some a = sym c.in-Some.is ∙ (c.leaf_of.ensures ∙ (ap leaf_of c.piece.ensures ∙ l.found)) in
     let same : c.in-Some.leaf ≡ a = cc in
-    (record { sound = c.step.ensures.fault ∙ ahead.sound; left = c.step.ensures.left ∙ ap behind l.here }, ap form_of same)
+    (record { sound = c.step.ensures.fault ∙ ahead.sound; left = c.step.ensures.left ∙ ap behind_next l.here }, ap syntax_form same)
 
 pub returns-in-Some-clause-sound : goal.returns-in-Some-clause-sound
 returns-in-Some-clause-sound c = λ least depth sound.

@@ -6,7 +6,7 @@ use Rattle.std.specs.List.{AllZip}
 use Rattle.steal.specs.declared.seats.OwnerSeat.{OwnerSeat}
 use Rattle.steal.specs.declared.seats.ThiefSeat.{ThiefSeat}
 use Rattle.steal.specs.declared.supply.Supply.{Supply}
-use Rattle.steal.specs.parts.Rows.{rows_of, AreFreshThieves}
+use Rattle.steal.specs.parts.Rows.{thief_rows, AreFreshThieves}
 use Rattle.steal.specs.Seats.{stolen_by, IsThiefOf}
 use Rattle.steal.proofs.Rows.{fresh_rows, fresh_dealt}
 use Rattle.steal.proofs.Supplies.{are_supplies, are_fresh}
@@ -31,7 +31,7 @@ loop-own-preserved c =
     let supplies = c.loop-own.supplies.items in
     let thieves = c.in_ok-left.thieves in
     let one : length c.loop-own.own-iterator.rest.items ≡ length rest + 1 = omega (arith, ap length c.in-Some.ensures.steps.0) in
-    let before = subst (λ (n : ℕ). AllZip (AreFreshThieves n) c.args.owners.items (rows_of c.loop-own.rows.items)) one c.loop-own.invariant.rows in
+    let before = subst (λ (n : ℕ). AllZip (AreFreshThieves n) c.args.owners.items (thief_rows c.loop-own.rows.items)) one c.loop-own.invariant.rows in
     let step = fresh_dealt (length rest) c.args.owners.items c.in_ok-left.ensures before in
     rw c.in_ok-push.ensures.items
     record {

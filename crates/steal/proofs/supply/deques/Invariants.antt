@@ -1,6 +1,6 @@
 use Rattle.std.proofs.Common.{◌≡◌, All, length}
 use Rattle.std.specs.List.{AllZip}
-use Rattle.steal.specs.parts.Rows.{rows_of, AreFreshThieves, IsFreshOwner}
+use Rattle.steal.specs.parts.Rows.{thief_rows, AreFreshThieves, IsFreshOwner}
 use Rattle.steal.proofs.supply.deques.Given as goal
 
 abbrev pub invariant-loop : goal.invariant-loop
@@ -8,5 +8,5 @@ invariant-loop l =
     record {
       size : length l.owners.items ≡ l.counter;
       owners : All (IsFreshOwner l.count) l.owners.items;
-      rows : AllZip (AreFreshThieves l.count) l.owners.items (rows_of l.rows.items);
+      rows : AllZip (AreFreshThieves l.count) l.owners.items (thief_rows l.rows.items);
     }

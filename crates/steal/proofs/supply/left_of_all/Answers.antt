@@ -5,7 +5,7 @@ use Rattle.std.specs.Global.{Vec}
 use Rattle.std.specs.List.{flat_map}
 use Rattle.steal.specs.declared.seats.OwnerSeat.{OwnerSeat}
 use Rattle.steal.specs.declared.seats.ThiefSeat.{ThiefSeat}
-use Rattle.steal.specs.parts.Rows.{rows_of}
+use Rattle.steal.specs.parts.Rows.{thief_rows}
 use Rattle.steal.specs.Seats.{popped, pushed, stolen_by, IsThiefOf}
 use Rattle.steal.specs.Supplies.{AreThieves}
 use Rattle.steal.proofs.Places.{All-from_map}
@@ -42,7 +42,7 @@ loop-owner-preserved c =
     let before = c.loop-owner.invariant in
     let left = c.loop-owner.left.items in
     let given = flat_map pushed c.args.owners.items in
-    let taken = flat_map popped c.args.owners.items ++ flat_map stolen_by (rows_of c.args.rows.items) in
+    let taken = flat_map popped c.args.owners.items ++ flat_map stolen_by (thief_rows c.args.rows.items) in
     rw (c.in_ok-extend_from_slice.ensures.items, c.as_slice.ensures.value)
     record {
       rows = others_thieves all owners owner rows others seats is before.rows before.counts cut;
@@ -50,14 +50,14 @@ loop-owner-preserved c =
       even = λ cube.
           let p : ℕ → Bool = λ x. x == cube in
           even_more p given taken owners owner left c.in_ok-cubes.cubes.items cut (c.in_ok-cubes.ensures cube)
-          (subst (λ (l : List OwnerSeat). IsEven p given taken l (rows_of rows) left) is (before.even cube));
+          (subst (λ (l : List OwnerSeat). IsEven p given taken l (thief_rows rows) left) is (before.even cube));
     }
 
 pub returns : goal.returns
 returns c cube =
     let given = flat_map pushed c.args.owners.items in
-    let taken = flat_map popped c.args.owners.items ++ flat_map stolen_by (rows_of c.args.rows.items) in
+    let taken = flat_map popped c.args.owners.items ++ flat_map stolen_by (thief_rows c.args.rows.items) in
     let last = c.loop-owner.invariant in
     let owners = c.loop-owner.owners in
     let none : owners.items ≡ [] = nil_from_length owners.items (omega (arith, owners.ok.0, c.in_default.ensures.cases)) in
-    even_ended (λ x. x == cube) given taken owners.items (rows_of c.loop-owner.rows.items) c.loop-owner.left.items none last.rows (last.even cube)
+    even_ended (λ x. x == cube) given taken owners.items (thief_rows c.loop-owner.rows.items) c.loop-owner.left.items none last.rows (last.even cube)

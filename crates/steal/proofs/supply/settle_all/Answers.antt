@@ -8,9 +8,9 @@ use Rattle.steal.specs.declared.seats.OwnerSeat.{OwnerSeat}
 use Rattle.steal.specs.declared.seats.ThiefSeat.{ThiefSeat}
 use Rattle.steal.specs.declared.supply.Supply.{Supply}
 use Rattle.steal.specs.Hands.{occurrences}
-use Rattle.steal.specs.parts.Rows.{rows_of}
+use Rattle.steal.specs.parts.Rows.{thief_rows}
 use Rattle.steal.specs.Seats.{popped, pushed, stolen_by, thief_count}
-use Rattle.steal.specs.Supplies.{given_by, taken_by, owners_of, AreThieves}
+use Rattle.steal.specs.Supplies.{given_by, taken_by_supplies, owners_of, AreThieves}
 use Rattle.steal.proofs.Moves.{count_by-append}
 use Rattle.steal.proofs.Supplies.{given_by-owners, count_taken_by}
 use Rattle.steal.proofs.supply.settle_all.Goals as goal
@@ -33,10 +33,10 @@ pub returns : goal.returns
 returns c =
     let supplies = c.args.supplies.items in
     let owners = c.in_ok-owners.owners.items in
-    let rows = rows_of c.in_ok-owners.rows.items in
+    let rows = thief_rows c.in_ok-owners.rows.items in
     let all = flat_map popped owners ++ flat_map stolen_by rows in
     IfOk-weaker c.left_of_all.result (λ (left : Vec ℕ). (cube : ℕ) → occurrences cube (flat_map pushed owners) ≡ occurrences cube (all ++ left.items))
-    (λ (left : Vec ℕ). (cube : ℕ) → occurrences cube (given_by supplies) ≡ occurrences cube (taken_by supplies ++ left.items))
+    (λ (left : Vec ℕ). (cube : ℕ) → occurrences cube (given_by supplies) ≡ occurrences cube (taken_by_supplies supplies ++ left.items))
     (λ left settled cube.
     let p : ℕ → Bool = λ x. x == cube in
     omega (
@@ -49,6 +49,6 @@ returns c =
       ap (λ (l : List (List ThiefSeat)). count_by p (flat_map stolen_by l)) c.in_ok-owners.ensures.rows,
       count_by-append p all left.items,
       count_by-append p (flat_map popped owners) (flat_map stolen_by rows),
-      count_by-append p (taken_by supplies) left.items,
+      count_by-append p (taken_by_supplies supplies) left.items,
     ))
     c.left_of_all.ensures

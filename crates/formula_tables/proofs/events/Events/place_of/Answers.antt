@@ -1,5 +1,5 @@
 use Rattle.std.proofs.Common.{ap, ◌∙◌, length}
-use Rattle.formula.specs.Families.{place_of}
+use Rattle.formula.specs.Families.{place_of_event}
 use Rattle.formula_tables.specs.Places.{first_place}
 use Rattle.formula_tables.specs.Slots.{event_slot, event_slots}
 use Rattle.formula_tables.proofs.EventSlots.{event_place}
@@ -10,4 +10,4 @@ returns c =
     let p = c.self.inside.program.now in
     let event = c.args.event.now in
     let number = c.slot.ensures ∙ ap (λ n. event_slot n event) (ap length c.calls.ensures.value) in
-    c.first.ensures ∙ (ap (λ l. first_place c.slot.result l) c.self.invariant ∙ (ap (λ n. first_place n (event_slots p)) number ∙ (event_place p event ∙ ap (λ q. place_of q event) c.self.view_is)))
+    c.first.ensures ∙ (ap (λ l. first_place c.slot.result l) c.self.invariant ∙ (ap (λ n. first_place n (event_slots p)) number ∙ (event_place p event ∙ ap (λ q. place_of_event q event) c.self.view_is)))

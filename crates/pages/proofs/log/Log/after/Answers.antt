@@ -1,6 +1,6 @@
 use Rattle.std.proofs.Common.{◌≡◌, ◌++◌, ◌+◌, ◌-◌, ◌*◌, ◌/◌, ◌%◌, ◌≤◌, List, length, drop, ap, ◌∙◌, arith}
 use Rattle.refutations.specs.Proofs.{ProofLine}
-use Rattle.pages.specs.Pages.{joined}
+use Rattle.pages.specs.Pages.{joined_pages}
 use Rattle.pages.proofs.Joined.{length-paged, drop-in_page, drop-after_pages}
 use Rattle.pages.proofs.log.Log.after.Goals as goal
 
@@ -14,7 +14,7 @@ returns-then-page-len c =
     let within : place / 256 ≤ length log.pages.items = omega (arith, c.if-page-len.true, c.len.ensures, log.pages.ok) in
     rw (c.make.ensures, pages, last)
     (drop-in_page 256 (place / 256) (place % 256) log.pages.items log.last.items c.self.invariant.full within
-    ∙ ap (λ n. drop n (joined log.pages.items ++ log.last.items)) at
+    ∙ ap (λ n. drop n (joined_pages log.pages.items ++ log.last.items)) at
     ∙ ap (λ (lines : List ProofLine). drop place lines) c.self.view_is)
 
 pub copied-requires-2 : goal.copied-requires-2

@@ -1,6 +1,6 @@
 use Rattle.std.proofs.Common.{◌≡◌, ◌*◌, ◌+◌, ◌-◌, ◌/◌, ◌%◌, ◌≤◌, List, ◌++◌, Some, length, ap, ◌∙◌, sym, arith}
 use Rattle.std.specs.List.{slice_get}
-use Rattle.pages.specs.Pages.{joined}
+use Rattle.pages.specs.Pages.{joined_pages}
 use Rattle.pages.proofs.Joined.{got, get-in_page, get-after_pages}
 use Rattle.pages.proofs.log.Log.get.Goals as goal
 use Rattle.refutations.specs.Proofs.{ProofLine}
@@ -14,7 +14,7 @@ returns-in-Some c =
     let at : place / 256 * 256 + place % 256 ≡ place = omega arith in
     c.get-in-Some.ensures
     ∙ sym (get-in_page 256 (place / 256) (place % 256) log.pages.items log.last.items c.in-Some.page.now c.self.invariant.full found (omega arith))
-    ∙ ap (slice_get (joined log.pages.items ++ log.last.items)) at
+    ∙ ap (slice_get (joined_pages log.pages.items ++ log.last.items)) at
     ∙ ap (λ (lines : List ProofLine). slice_get lines place) c.self.view_is
 
 pub returns-in-None : goal.returns-in-None

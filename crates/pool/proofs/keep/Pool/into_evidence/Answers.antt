@@ -3,8 +3,8 @@ use Rattle.std.specs.Arc.{arc_value}
 use Rattle.clauses.specs.Clauses.{Conjunction}
 use Rattle.refutations.specs.Refutations.{Accepts, AreDerived}
 use Rattle.encode.specs.Encodings.{EncodedProgram}
-use Rattle.pool.specs.Evidence.{IsRefutationOf, IsTreeOf, IsUndecided}
-use Rattle.pool.specs.States.{PoolWithHistory, IsOpen}
+use Rattle.pool.specs.Evidence.{IsRefutationOf, IsTreeOf, IsUndecidedPool}
+use Rattle.pool.specs.States.{PoolWithHistory, IsOpenLeaf}
 use Rattle.pool.proofs.Assembling.{all_refuted, none_mapped, refuted_as}
 use Rattle.pool.proofs.OpenLeaves.{open_counts, some_open}
 use Rattle.pool.proofs.keep.Pool.into_evidence.Goals as goal
@@ -13,7 +13,7 @@ pub returns-then-open_leaves-gt0-clause-open : goal.returns-then-open_leaves-gt0
 returns-then-open_leaves-gt0-clause-open c = (
   λ _.
       let some = some_open c.self.inside.tree.nodes c.self.inside.closed.items (omega (arith, c.if-open_leaves-gt0.true, c.self.invariant.1)) in
-      subst (λ (k : PoolWithHistory). IsUndecided k.held) c.self.view_is
+      subst (λ (k : PoolWithHistory). IsUndecidedPool k.held) c.self.view_is
       (none_mapped _ c.self.inside.schedule c.in_default.is, some.0, (some.1, some.2)),
   λ _. refl,
 )
@@ -46,7 +46,7 @@ pub returns-in-Ok-clause-open : goal.returns-in-Ok-clause-open
 returns-in-Ok-clause-open c = (
   λ e. absurd (cc),
   λ u.
-      let is = subst (λ (k : PoolWithHistory). IsOpen k.held u.1) (sym c.self.view_is) u.2 in
+      let is = subst (λ (k : PoolWithHistory). IsOpenLeaf k.held u.1) (sym c.self.view_is) u.2 in
       absurd (omega (arith, c.if-open_leaves-gt0.false, c.self.invariant.1, open_counts c.self.inside.tree.nodes c.self.inside.closed.items u.1 is.0 is.1)),
 )
 
@@ -54,6 +54,6 @@ pub returns-clause-open : goal.returns-clause-open
 returns-clause-open c = (
   λ e. absurd (cc),
   λ u.
-      let is = subst (λ (k : PoolWithHistory). IsOpen k.held u.1) (sym c.self.view_is) u.2 in
+      let is = subst (λ (k : PoolWithHistory). IsOpenLeaf k.held u.1) (sym c.self.view_is) u.2 in
       absurd (omega (arith, c.if-open_leaves-gt0.false, c.self.invariant.1, open_counts c.self.inside.tree.nodes c.self.inside.closed.items u.1 is.0 is.1)),
 )

@@ -8,7 +8,7 @@ use Rattle.prooflog.specs.Refutations.{ClaimedRefutation}
 use Rattle.encode.specs.Encodings.{EncodedProgram}
 use Rattle.trees.specs.Laws.{AreLeavesRefuted}
 use Rattle.pool.specs.Evidence.{IsTreeOf}
-use Rattle.pool.specs.States.{PoolWithHistory, IsOpen}
+use Rattle.pool.specs.States.{PoolWithHistory, IsOpenLeaf}
 use Rattle.pool.proofs.Assembling.{all_refuted, refuted_as}
 use Rattle.pool.proofs.keep.Pool.refutation.Goals as goal
 
@@ -21,7 +21,7 @@ pub refutation_of-requires-clause-refuted : goal.refutation_of-requires-clause-r
 refutation_of-requires-clause-refuted c =
     subst (λ (log : List ProofLine). AreLeavesRefuted c.self.inside.tree.nodes (clauses_before c.formula-formula.result.now log) c.as_slice.result.now) (sym c.in_ok-lines.ensures)
     (refuted_as (arc_value c.self.inside.encoded).formula c.formula-formula.result.now c.self.inside.log c.self.inside.tree.nodes c.self.inside.closed.items c.as_slice.result.now (c.formula-formula.ensures.same ∙ ap (λ (e : EncodedProgram). e.formula) c.deref.ensures) c.as_slice.ensures.value
-    (all_refuted _ c.self.invariant.0 (λ leaf is. c.requires leaf (subst (λ (k : PoolWithHistory). IsOpen k.held leaf) c.self.view_is is))))
+    (all_refuted _ c.self.invariant.0 (λ leaf is. c.requires leaf (subst (λ (k : PoolWithHistory). IsOpenLeaf k.held leaf) c.self.view_is is))))
 
 pub returns-clause-tree : goal.returns-clause-tree
 returns-clause-tree c =

@@ -2,7 +2,7 @@
 use Rattle.std.proofs.Common.{◌∙◌, ℕ, ◌+◌, ◌<◌, cond, List, [], ◌∷◌, ◌++◌, codes, arith, subst}
 use Rattle.std.specs.Prelude.{string_bytes}
 use Rattle.session.specs.parts.Phasing.{files_of}
-use Rattle.session.specs.Phasing.{IsPart, path_in}
+use Rattle.session.specs.Phasing.{IsPartOfCut, path_in}
 use Rattle.session.proofs.CutTexts.{as_many, few_jobs, one_text}
 use Rattle.session.proofs.cut_files.Texts.put.Goals as goal
 
@@ -16,7 +16,7 @@ returns c = λ parts so_far.
     let name_is = c.deref-2.ensures in (
       c.in_ok-job.job,
       one_text folder parts old so_far _ text (string_bytes c.in_ok-name.name) c.in_ok-job.job (c.len.result + 1) (omega (arith, c.len.ensures, many, old.files.ok.0)) c.in_ok-name.ensures
-          (subst (λ (bytes : List ℕ). IsPart (record { text = bytes; job = c.in_ok-job.job })) c.deref.ensures.value c.in_ok-job.ensures)
+          (subst (λ (bytes : List ℕ). IsPartOfCut (record { text = bytes; job = c.in_ok-job.job })) c.deref.ensures.value c.in_ok-job.ensures)
           (c.in_ok-put_file.ensures ∙ (λ i. files_of (c.in_ok-note.ensures.files i).items ++ record { path = path_in folder (c.deref-3.ensures i); text = text } ∷ []))
           (c.in_ok-note.ensures.list ∙ (λ i. string_bytes old.list ++ cond c.in_ok-job.job (path_in folder (name_is i) ++ codes "\n") [])) (c.in_ok-note.ensures.jobs few),
     )

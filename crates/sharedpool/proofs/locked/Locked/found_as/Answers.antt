@@ -1,6 +1,6 @@
 use Rattle.std.proofs.Common.{◌∙◌, refl, ap, subst, rules}
 use Rattle.pool.specs.Calls.{after_found}
-use Rattle.pool.specs.States.{IsFound}
+use Rattle.pool.specs.States.{IsFoundReply}
 use Rattle.pool.proofs.Calls.{found_step}
 use Rattle.sharedpool.proofs.Legal.{ready, locked_more}
 use Rattle.sharedpool.proofs.locked.Locked.found_as.Goals as goal
@@ -16,7 +16,7 @@ invariant_of-self-2 g c =
     let result = c.found-reply.result in
     locked_more _ _ _ _ _ _ _ _ _ _ c.self.invariant c.note.ensures
     (reply.pool ∙ ap (λ steps. after_found h worker steps result) c.requires.steps)
-    (found_step h.held worker g.S.StepsName.steps result (λ e. search rules) (subst (λ steps. IsFound h.held steps result) c.requires.steps reply.reply))
+    (found_step h.held worker g.S.StepsName.steps result (λ e. search rules) (subst (λ steps. IsFoundReply h.held steps result) c.requires.steps reply.reply))
 
 pub returns-clause-seat : goal.returns-clause-seat
 returns-clause-seat g c = search rules
