@@ -14,8 +14,8 @@ use Rattle.callorder.specs.declared.calls.Pattern.{Pattern}
 use Rattle.callorder.specs.Calls.{message_of}
 use Rattle.callorder.specs.Programs.{MpiProgram}
 use Rattle.balance.specs.declared.channels.Channel.{Channel}
-use Rattle.balance.specs.declared.channels.Address.{Address}
-use Rattle.balance.specs.declared.channels.Loose.{Loose}
+use Rattle.balance.specs.declared.channels.ChannelAddress.{ChannelAddress}
+use Rattle.balance.specs.declared.channels.TakerWildcards.{TakerWildcards}
 use Rattle.balance.specs.Balance.{channel_at, channel_of, channel_of_call, channel_sent, channel_taken, taken_by, leaves_source_open, takes_any_source_as, takes_any_tag, takes_any_tag_as}
 use Rattle.balance.specs.parts.Wildcards.{channel_address_of, channel_address_sent, channel_address_taken, IsWild, AreWild, AreNumbersOfNames}
 use Rattle.std.specs.Option.{option_map}
@@ -24,10 +24,10 @@ use Rattle.balance.proofs.Lists.{item_there, front_or_end, set_here, set_elsewhe
 
 -- ---- equal addresses
 
-abbrev address_at : ℕ → ℕ → Address
+abbrev address_at : ℕ → ℕ → ChannelAddress
 address_at communicator destination = record { destination = destination; communicator = communicator }
 
-pub are_numbers : (test : Address → Address → Bool) → ((a b : Address) → test a b ≡ (a.destination == b.destination && a.communicator == b.communicator)) → (names : List (Option Address)) (numbers : List (Option ℕ)) → IsNumbering test names numbers → AreNumbersOfNames names numbers
+pub are_numbers : (test : ChannelAddress → ChannelAddress → Bool) → ((a b : ChannelAddress) → test a b ≡ (a.destination == b.destination && a.communicator == b.communicator)) → (names : List (Option ChannelAddress)) (numbers : List (Option ℕ)) → IsNumbering test names numbers → AreNumbersOfNames names numbers
 are_numbers test is names numbers n =
     record {
       test = test;
@@ -35,16 +35,16 @@ are_numbers test is names numbers n =
       numbering = n;
     }
   where
-    same : (a b : Address) → (a.destination == b.destination && a.communicator == b.communicator) ≡ true → a ≡ b
+    same : (a b : ChannelAddress) → (a.destination == b.destination && a.communicator == b.communicator) ≡ true → a ≡ b
     same a b on =
         let w = and_true (a.destination == b.destination) (a.communicator == b.communicator) on in
         let d : a.destination ≡ b.destination = eqb-true a.destination b.destination w.0 in
         let k : a.communicator ≡ b.communicator = eqb-true a.communicator b.communicator w.1 in
         ap (address_at a.communicator) d ∙ ap (λ (c : ℕ). address_at c b.destination) k
 
-    alike : (a b : Address) → a ≡ b → (a.destination == b.destination && a.communicator == b.communicator) ≡ true
+    alike : (a b : ChannelAddress) → a ≡ b → (a.destination == b.destination && a.communicator == b.communicator) ≡ true
     alike a b e =
-        and_both (a.destination == b.destination) (a.communicator == b.communicator) (eq-eqb a.destination b.destination (ap (λ (z : Address). z.destination) e)) (eq-eqb a.communicator b.communicator (ap (λ (z : Address). z.communicator) e))
+        and_both (a.destination == b.destination) (a.communicator == b.communicator) (eq-eqb a.destination b.destination (ap (λ (z : ChannelAddress). z.destination) e)) (eq-eqb a.communicator b.communicator (ap (λ (z : ChannelAddress). z.communicator) e))
 
 pub ok_more : {A E : Type 0} (r : Result A E) (P Q : A → Type 0) → ((x : A) → P x → Q x) → IfOk r P → IfOk r Q
 ok_more (Ok x) P Q f h = f x h
@@ -57,7 +57,7 @@ bool_cases true h = absurd (h refl)
 bool_cases false h = refl
 
 -- a taker with this pattern is at this address
-taker_address : (call : Call) (pattern : Pattern) (address : Address) → taken_by call ≡ Some pattern → (call.rank == address.destination && pattern.communicator == address.communicator) ≡ true → channel_address_of call ≡ Some address
+taker_address : (call : Call) (pattern : Pattern) (address : ChannelAddress) → taken_by call ≡ Some pattern → (call.rank == address.destination && pattern.communicator == address.communicator) ≡ true → channel_address_of call ≡ Some address
 taker_address call pattern address taken on =
     let none : message_of call.kind ≡ None = no_message call.kind (taker_kind call.kind (ap is_some taken)).0 in
     let w = and_true (call.rank == address.destination) (pattern.communicator == address.communicator) on in
@@ -66,7 +66,7 @@ taker_address call pattern address taken on =
     ap (channel_address_sent call) none ∙ ap (channel_address_taken call.rank) taken ∙
     ap (λ (z : ℕ). Some (address_at pattern.communicator z)) d ∙ ap (λ (z : ℕ). Some (address_at z address.destination)) k
 
-none_here : (call : Call) (address : Address) → (channel_address_of call ≡ Some address → ⊥) → (leaves_source_open address.destination address.communicator call ≡ false) × (takes_any_tag address.destination address.communicator call ≡ false)
+none_here : (call : Call) (address : ChannelAddress) → (channel_address_of call ≡ Some address → ⊥) → (leaves_source_open address.destination address.communicator call ≡ false) × (takes_any_tag address.destination address.communicator call ≡ false)
 none_here call address elsewhere = by (taken_by call) refl
   where
     by : (o : Option Pattern) → taken_by call ≡ o → (takes_any_source_as address.destination address.communicator call.rank o ≡ false) × (takes_any_tag_as address.destination address.communicator call.rank o ≡ false)
@@ -83,7 +83,7 @@ one_more : (test : Call → Bool) (calls : List Call) (call : Call) → test cal
 one_more test calls call off =
     list_any-append test calls (call ∷ []) ∙ ap (λ (b : Bool). list_any test calls || (b || false)) off ∙ or_false (list_any test calls)
 
-loose_more : (calls : List Call) (call : Call) (address : Address) (loose : Loose) → IsWild calls address loose → (channel_address_of call ≡ Some address → ⊥) → IsWild (calls ++ call ∷ []) address loose
+loose_more : (calls : List Call) (call : Call) (address : ChannelAddress) (loose : TakerWildcards) → IsWild calls address loose → (channel_address_of call ≡ Some address → ⊥) → IsWild (calls ++ call ∷ []) address loose
 loose_more calls call address loose is elsewhere =
     let none = none_here call address elsewhere in
     record {
@@ -101,7 +101,7 @@ front calls place call there =
 name_there : (calls : List Call) (place : ℕ) (call : Call) → slice_get calls place ≡ Some call → slice_get (map channel_address_of calls) place ≡ Some (channel_address_of call)
 name_there calls place call there = slice_get-map channel_address_of calls place ∙ ap (λ (o : Option Call). option_map channel_address_of o) there
 
-pub loose_none : (calls : List Call) (numbers : List (Option ℕ)) (table : List Loose) (place : ℕ) (call : Call) → AreNumbersOfNames (map channel_address_of calls) numbers → AreWild (take place calls) (map channel_address_of calls) numbers table → slice_get calls place ≡ Some call → slice_get numbers place ≡ Some None → AreWild (take (place + 1) calls) (map channel_address_of calls) numbers table
+pub loose_none : (calls : List Call) (numbers : List (Option ℕ)) (table : List TakerWildcards) (place : ℕ) (call : Call) → AreNumbersOfNames (map channel_address_of calls) numbers → AreWild (take place calls) (map channel_address_of calls) numbers table → slice_get calls place ≡ Some call → slice_get numbers place ≡ Some None → AreWild (take (place + 1) calls) (map channel_address_of calls) numbers table
 loose_none calls numbers table place call n are there none =
     record {
       size = are.size;
@@ -110,43 +110,43 @@ loose_none calls numbers table place call n are there none =
           (λ here. let w = n.numbering.named place address (name_there calls place call there ∙ ap Some here) in let e = w.1 in cc));
     }
 
-pub loose_some : (calls : List Call) (numbers : List (Option ℕ)) (table : List Loose) (place : ℕ) (call : Call) (number : ℕ) (old new : Loose) → AreNumbersOfNames (map channel_address_of calls) numbers → AreWild (take place calls) (map channel_address_of calls) numbers table → slice_get calls place ≡ Some call → slice_get numbers place ≡ Some (Some number) → slice_get table number ≡ Some old → ((some : List Call) (address : Address) → channel_address_of call ≡ Some address → IsWild some address old → IsWild (some ++ call ∷ []) address new) → AreWild (take (place + 1) calls) (map channel_address_of calls) numbers (slice_set table number new)
+pub loose_some : (calls : List Call) (numbers : List (Option ℕ)) (table : List TakerWildcards) (place : ℕ) (call : Call) (number : ℕ) (old new : TakerWildcards) → AreNumbersOfNames (map channel_address_of calls) numbers → AreWild (take place calls) (map channel_address_of calls) numbers table → slice_get calls place ≡ Some call → slice_get numbers place ≡ Some (Some number) → slice_get table number ≡ Some old → ((some : List Call) (address : ChannelAddress) → channel_address_of call ≡ Some address → IsWild some address old → IsWild (some ++ call ∷ []) address new) → AreWild (take (place + 1) calls) (map channel_address_of calls) numbers (slice_set table number new)
 loose_some calls numbers table place call number old new n are there num held more =
     record {
       size = length-set table number new ∙ are.size;
       each = λ c m address loose at at_number is. subst (λ (z : List Call). IsWild z address loose) (sym (front calls place call there)) (each c m address loose at at_number is);
     }
   where
-    own : (o : Option Address) → channel_address_of call ≡ o → (a : Address) × (channel_address_of call ≡ Some a)
+    own : (o : Option ChannelAddress) → channel_address_of call ≡ o → (a : ChannelAddress) × (channel_address_of call ≡ Some a)
     own None is = absurd (let e = n.numbering.unnamed place (name_there calls place call there ∙ ap Some is) in cc)
     own (Some a) is = (a, is)
 
-    same : (c m : ℕ) (address : Address) → slice_get (map channel_address_of calls) c ≡ Some (Some address) → slice_get numbers c ≡ Some (Some m) → (m ≡ number) ↔ (channel_address_of call ≡ Some address)
+    same : (c m : ℕ) (address : ChannelAddress) → slice_get (map channel_address_of calls) c ≡ Some (Some address) → slice_get numbers c ≡ Some (Some m) → (m ≡ number) ↔ (channel_address_of call ≡ Some address)
     same c m address at at_number =
         let a = own (channel_address_of call) refl in
         let tests = n.tests address a.0 in
         let both = n.numbering.same c place address a.0 m number at (name_there calls place call there ∙ ap Some a.1) at_number num in
         (λ e. a.1 ∙ ap Some (sym (tests.0 (both.0 e))), λ e. both.1 (tests.1 (let f : address ≡ a.0 = cc (e, a.1) in f)))
 
-    each : (c m : ℕ) (address : Address) (loose : Loose) → slice_get (map channel_address_of calls) c ≡ Some (Some address) → slice_get numbers c ≡ Some (Some m) → slice_get (slice_set table number new) m ≡ Some loose → IsWild (take place calls ++ call ∷ []) address loose
+    each : (c m : ℕ) (address : ChannelAddress) (loose : TakerWildcards) → slice_get (map channel_address_of calls) c ≡ Some (Some address) → slice_get numbers c ≡ Some (Some m) → slice_get (slice_set table number new) m ≡ Some loose → IsWild (take place calls ++ call ∷ []) address loose
     each c m address loose at at_number is =
         elim (cases_eq m number) [
           | inl e ↦
               let here : slice_get (slice_set table number new) m ≡ Some new = ap (slice_get (slice_set table number new)) e ∙ set_here table number new (slice_get_within table number old held) in
               let f : new ≡ loose = cc in
-              subst (λ (z : Loose). IsWild (take place calls ++ call ∷ []) address z) f
+              subst (λ (z : TakerWildcards). IsWild (take place calls ++ call ∷ []) address z) f
               (more (take place calls) address ((same c m address at at_number).0 e) (are.each c m address old at at_number (ap (slice_get table) e ∙ held)))
           | inr differ ↦
               loose_more (take place calls) call address loose (are.each c m address loose at at_number (set_elsewhere table number m new loose differ is))
               (λ here. differ ((same c m address at at_number).1 here))
         ]
 
-pub loose_none_at : (calls : List Call) (numbers : List (Option ℕ)) (table : List Loose) (place : ℕ) → AreNumbersOfNames (map channel_address_of calls) numbers → AreWild (take place calls) (map channel_address_of calls) numbers table → place < length numbers → get_or numbers place None ≡ None → AreWild (take (place + 1) calls) (map channel_address_of calls) numbers table
+pub loose_none_at : (calls : List Call) (numbers : List (Option ℕ)) (table : List TakerWildcards) (place : ℕ) → AreNumbersOfNames (map channel_address_of calls) numbers → AreWild (take place calls) (map channel_address_of calls) numbers table → place < length numbers → get_or numbers place None ≡ None → AreWild (take (place + 1) calls) (map channel_address_of calls) numbers table
 loose_none_at calls numbers table place n are below none =
     let at = item_there calls place (omega (arith, below, n.numbering.size, length-map calls channel_address_of)) in
     loose_none calls numbers table place at.0 n are at.1 (slice_get-get_or numbers place None below ∙ ap Some none)
 
-pub loose_some_at : (calls : List Call) (numbers : List (Option ℕ)) (table : List Loose) (place : ℕ) (d : Call) (number : ℕ) (old new : Loose) → AreNumbersOfNames (map channel_address_of calls) numbers → AreWild (take place calls) (map channel_address_of calls) numbers table → place < length numbers → get_or numbers place None ≡ Some number → old ≡ get_or table number old → ((some : List Call) (address : Address) → channel_address_of (get_or calls place d) ≡ Some address → IsWild some address old → IsWild (some ++ get_or calls place d ∷ []) address new) → AreWild (take (place + 1) calls) (map channel_address_of calls) numbers (slice_set table number new)
+pub loose_some_at : (calls : List Call) (numbers : List (Option ℕ)) (table : List TakerWildcards) (place : ℕ) (d : Call) (number : ℕ) (old new : TakerWildcards) → AreNumbersOfNames (map channel_address_of calls) numbers → AreWild (take place calls) (map channel_address_of calls) numbers table → place < length numbers → get_or numbers place None ≡ Some number → old ≡ get_or table number old → ((some : List Call) (address : ChannelAddress) → channel_address_of (get_or calls place d) ≡ Some address → IsWild some address old → IsWild (some ++ get_or calls place d ∷ []) address new) → AreWild (take (place + 1) calls) (map channel_address_of calls) numbers (slice_set table number new)
 loose_some_at calls numbers table place d number old new n are below num held more =
     let num_there : slice_get numbers place ≡ Some (Some number) = slice_get-get_or numbers place None below ∙ ap Some num in
     loose_some calls numbers table place (get_or calls place d) number old new n are
@@ -165,11 +165,11 @@ no_channel : (p : MpiProgram) (call : Call) (o : Option Message) → channel_add
 no_channel p call None h = no_channel_taken p call.rank (taken_by call) h
 no_channel p call (Some message) h = absurd (cc)
 
-at_address : (calls : List Call) (numbers : List (Option ℕ)) (place number : ℕ) (call : Call) → AreNumbersOfNames (map channel_address_of calls) numbers → slice_get calls place ≡ Some call → slice_get numbers place ≡ Some (Some number) → (o : Option Address) → channel_address_of call ≡ o → (a : Address) × (channel_address_of call ≡ Some a)
+at_address : (calls : List Call) (numbers : List (Option ℕ)) (place number : ℕ) (call : Call) → AreNumbersOfNames (map channel_address_of calls) numbers → slice_get calls place ≡ Some call → slice_get numbers place ≡ Some (Some number) → (o : Option ChannelAddress) → channel_address_of call ≡ o → (a : ChannelAddress) × (channel_address_of call ≡ Some a)
 at_address calls numbers place number call n there num None is = absurd (let e = n.numbering.unnamed place (name_there calls place call there ∙ ap Some is) in cc)
 at_address calls numbers place number call n there num (Some a) is = (a, is)
 
-at_none : (calls : List Call) (numbers : List (Option ℕ)) (place : ℕ) (call : Call) → AreNumbersOfNames (map channel_address_of calls) numbers → slice_get calls place ≡ Some call → slice_get numbers place ≡ Some None → (o : Option Address) → channel_address_of call ≡ o → channel_address_of call ≡ None
+at_none : (calls : List Call) (numbers : List (Option ℕ)) (place : ℕ) (call : Call) → AreNumbersOfNames (map channel_address_of calls) numbers → slice_get calls place ≡ Some call → slice_get numbers place ≡ Some None → (o : Option ChannelAddress) → channel_address_of call ≡ o → channel_address_of call ≡ None
 at_none calls numbers place call n there none None is = is
 at_none calls numbers place call n there none (Some a) is = absurd (let w = n.numbering.named place a (name_there calls place call there ∙ ap Some is) in let e = w.1 in cc)
 
@@ -179,7 +179,7 @@ none_at p numbers place n below none =
     ap (channel_of_call p) at.1 ∙
     no_channel p at.0 (message_of at.0.kind) (at_none p.calls numbers place at.0 n at.1 (slice_get-get_or numbers place None below ∙ ap Some none) (channel_address_of at.0) refl)
 
-pub some_at : (p : MpiProgram) (numbers : List (Option ℕ)) (table : List Loose) (place : ℕ) (d : Call) (number : ℕ) (loose : Loose) (channel : Option Channel) → AreNumbersOfNames (map channel_address_of p.calls) numbers → AreWild p.calls (map channel_address_of p.calls) numbers table → place < length numbers → get_or numbers place None ≡ Some number → loose ≡ get_or table number loose → ((q : MpiProgram) (address : Address) → channel_address_of (get_or p.calls place d) ≡ Some address → IsWild q.calls address loose → channel ≡ channel_of q (get_or p.calls place d)) → channel ≡ channel_at p place
+pub some_at : (p : MpiProgram) (numbers : List (Option ℕ)) (table : List TakerWildcards) (place : ℕ) (d : Call) (number : ℕ) (loose : TakerWildcards) (channel : Option Channel) → AreNumbersOfNames (map channel_address_of p.calls) numbers → AreWild p.calls (map channel_address_of p.calls) numbers table → place < length numbers → get_or numbers place None ≡ Some number → loose ≡ get_or table number loose → ((q : MpiProgram) (address : ChannelAddress) → channel_address_of (get_or p.calls place d) ≡ Some address → IsWild q.calls address loose → channel ≡ channel_of q (get_or p.calls place d)) → channel ≡ channel_at p place
 some_at p numbers table place d number loose channel n are below num held is =
     let there : slice_get p.calls place ≡ Some (get_or p.calls place d) = slice_get-get_or p.calls place d (omega (arith, below, n.numbering.size, length-map p.calls channel_address_of)) in
     let at : slice_get numbers place ≡ Some (Some number) = slice_get-get_or numbers place None below ∙ ap Some num in

@@ -23,14 +23,14 @@ pub struct Channel {
 
 /// The rank that messages are sent to, and their communicator.
 #[derive(Clone, Copy, PartialEq, Eq, Hash)]
-pub struct Address {
+pub struct ChannelAddress {
     pub destination: u32,
     pub communicator: u32,
 }
 
 /// What takers at an address leave open.
 #[derive(Clone, Copy)]
-pub struct Loose {
+pub struct TakerWildcards {
     /// One takes any source.
     pub source: bool,
     /// One takes any tag.
@@ -49,18 +49,18 @@ fn taken_by(call: &Call) -> Option<Pattern>
 }
 
 /// The address of a send's message, or of a taker.
-fn address_of(call: &Call) -> Option<Address>
+fn address_of(call: &Call) -> Option<ChannelAddress>
     ensures { result ≡ channel_address_of call.now }
 {
     if let Some(message) = call.kind.message() {
-        return Some(Address {
+        return Some(ChannelAddress {
             destination: message.destination,
             communicator: message.communicator,
         });
     }
     match taken_by(call) {
         None => None,
-        Some(pattern) => Some(Address {
+        Some(pattern) => Some(ChannelAddress {
             destination: call.rank,
             communicator: pattern.communicator,
         }),
@@ -68,7 +68,7 @@ fn address_of(call: &Call) -> Option<Address>
 }
 
 /// The address of each call.
-fn addresses_of(alloc: Global, calls: &[Call]) -> Result<Vec<Option<Address>>, AllocError>
+fn addresses_of(alloc: Global, calls: &[Call]) -> Result<Vec<Option<ChannelAddress>>, AllocError>
     ensures { IfOk result (λ addresses. addresses.items ≡ map channel_address_of calls.now) }
 {
     calls.iter().map(address_of).collect(alloc)
@@ -77,7 +77,7 @@ fn addresses_of(alloc: Global, calls: &[Call]) -> Result<Vec<Option<Address>>, A
 /// A number for each address.
 fn numbers_of(
     alloc: Global,
-    addresses: Vec<Option<Address>>,
+    addresses: Vec<Option<ChannelAddress>>,
 ) -> Result<Vec<Option<usize>>, AllocError>
     ensures { IfOk result (λ numbers. AreNumbersOfNames addresses.items numbers.items) }
 {
@@ -85,13 +85,13 @@ fn numbers_of(
 }
 
 /// What calls at an address leave open, after one more call there.
-fn loosened(loose: Loose, call: &Call) -> Loose
-    ensures { (calls : List Call) (address : Address) → channel_address_of call.now ≡ Some address →
+fn loosened(loose: TakerWildcards, call: &Call) -> TakerWildcards
+    ensures { (calls : List Call) (address : ChannelAddress) → channel_address_of call.now ≡ Some address →
         IsWild calls address loose → IsWild (calls ++ call.now ∷ []) address result }
 {
     match taken_by(call) {
         None => loose,
-        Some(pattern) => Loose {
+        Some(pattern) => TakerWildcards {
             source: loose.source || pattern.source.is_none(),
             tag: loose.tag || pattern.tag.is_none(),
         },
@@ -103,11 +103,11 @@ fn loose_of(
     alloc: Global,
     calls: &[Call],
     numbers: &[Option<usize>],
-) -> Result<Vec<Loose>, AllocError>
+) -> Result<Vec<TakerWildcards>, AllocError>
     requires { AreNumbersOfNames (map channel_address_of calls.now) numbers.now }
     ensures { IfOk result (λ table. AreWild calls.now (map channel_address_of calls.now) numbers.now table.items) }
 {
-    let bound = Loose {
+    let bound = TakerWildcards {
         source: false,
         tag: false,
     };
@@ -121,7 +121,7 @@ fn loose_of(
 }
 
 /// The channel at an address where takers leave this open.
-fn channel_to(address: Address, loose: Loose, source: Option<u32>, tag: Option<u32>) -> Channel
+fn channel_to(address: ChannelAddress, loose: TakerWildcards, source: Option<u32>, tag: Option<u32>) -> Channel
     ensures { (p : MpiProgram) → IsWild p.calls address loose → result ≡ channel_to p address.destination address.communicator source tag }
 {
     Channel {
@@ -133,8 +133,8 @@ fn channel_to(address: Address, loose: Loose, source: Option<u32>, tag: Option<u
 }
 
 /// The channel of a send or a taker, at an address where takers leave this open.
-fn channel_in(call: &Call, loose: Loose) -> Option<Channel>
-    ensures { (p : MpiProgram) (address : Address) → channel_address_of call.now ≡ Some address →
+fn channel_in(call: &Call, loose: TakerWildcards) -> Option<Channel>
+    ensures { (p : MpiProgram) (address : ChannelAddress) → channel_address_of call.now ≡ Some address →
         IsWild p.calls address loose → result ≡ channel_of p call.now }
 {
     let address = address_of(call)?;

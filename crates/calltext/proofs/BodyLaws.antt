@@ -5,8 +5,8 @@ use Rattle.plaintext.specs.TextLines.{text_lines}
 use Rattle.plaintext.specs.Plain.{line_of}
 use Rattle.plaintext.proofs.Cuts.{no_line_of}
 use Rattle.calltext.specs.declared.call.CallLine.{CallLine}
-use Rattle.calltext.specs.declared.line.LineFault.{LineFault}
-use Rattle.calltext.specs.declared.line.LineFault.TheVariants as wrong
+use Rattle.calltext.specs.declared.line.CallLineFault.{CallLineFault}
+use Rattle.calltext.specs.declared.line.CallLineFault.TheVariants as wrong
 use Rattle.calltext.specs.Grammar.{call_words, rank_words, rank_lines, CallFits}
 use Rattle.calltext.specs.RefusedWords.{refused_word}
 use Rattle.calltext.specs.parts.Item.{IsWrong, IsUnended}
@@ -60,14 +60,14 @@ SoFar-rank l total bytes rest after number ranks calls line so next lt spelled =
       place = omega (arith, so.place, ap length (rank_lines-rank done), length-append (rank_lines 0 done) (line_of (rank_words (length done)) ∷ []));
     }
 
-stop : (l : Limits) (fault : LineFault) (number total : ℕ) (bytes : List ℕ) → StopsAt l fault number total bytes → IsStopped l fault number total bytes
+stop : (l : Limits) (fault : CallLineFault) (number total : ℕ) (bytes : List ℕ) → StopsAt l fault number total bytes → IsStopped l fault number total bytes
 stop l wrong.Memory number total bytes h = tt
 stop l wrong.NotAscii number total bytes h = h
 stop l wrong.Syntax number total bytes h = h
 stop l (wrong.OutOfProfile w) number total bytes h = h
 stop l wrong.Range number total bytes h = h
 
-pub SoFar-stop : (l : Limits) (fault : LineFault) (total : ℕ) (bytes rest : List ℕ) (number : ℕ) (ranks : List (List CallLine)) (calls : List CallLine) (line : List ℕ) (after : List (List ℕ))
+pub SoFar-stop : (l : Limits) (fault : CallLineFault) (total : ℕ) (bytes rest : List ℕ) (number : ℕ) (ranks : List (List CallLine)) (calls : List CallLine) (line : List ℕ) (after : List (List ℕ))
     → SoFar l total bytes rest number ranks calls → text_lines rest ≡ line ∷ after → IsWrong l fault (length ranks + 1) total line → (line ≡ [] → length ranks + 1 < total)
     → IsStopped l fault number total bytes
 SoFar-stop l fault total bytes rest number ranks calls line after so next why early =
@@ -86,7 +86,7 @@ SoFar-stop l fault total bytes rest number ranks calls line after so next why ea
       early = λ e. omega (arith, len, early e);
     })
 
-no_wrong : (l : Limits) (fault : LineFault) (next total : ℕ) (bytes : List ℕ) → text_lines bytes ≡ bytes ∷ [] → IsUnended fault bytes → IsWrong l fault next total bytes
+no_wrong : (l : Limits) (fault : CallLineFault) (next total : ℕ) (bytes : List ℕ) → text_lines bytes ≡ bytes ∷ [] → IsUnended fault bytes → IsWrong l fault next total bytes
 no_wrong l wrong.Memory next total bytes one u = absurd u
 no_wrong l wrong.NotAscii next total bytes one u = u
 no_wrong l wrong.Syntax next total bytes one u = (u, λ c names e. no_line_of bytes (call_words c) one e, λ lt e. no_line_of bytes (rank_words next) one e, λ w r. no_line_of bytes (refused_word w ∷ r.1) one (sym r.2))
@@ -94,7 +94,7 @@ no_wrong l (wrong.OutOfProfile w) next total bytes one u = absurd u
 no_wrong l wrong.Range next total bytes one u = absurd u
 
 -- a line that lacks its LF
-pub SoFar-unended : (l : Limits) (fault : LineFault) (total : ℕ) (bytes rest : List ℕ) (number : ℕ) (ranks : List (List CallLine)) (calls : List CallLine)
+pub SoFar-unended : (l : Limits) (fault : CallLineFault) (total : ℕ) (bytes rest : List ℕ) (number : ℕ) (ranks : List (List CallLine)) (calls : List CallLine)
     → SoFar l total bytes rest number ranks calls → text_lines rest ≡ rest ∷ [] → IsUnended fault rest → (rest ≡ [] → length ranks + 1 < total) → IsStopped l fault number total bytes
 SoFar-unended l fault total bytes rest number ranks calls so one u early = SoFar-stop l fault total bytes rest number ranks calls rest [] so one (no_wrong l fault (length ranks + 1) total rest one u) early
 

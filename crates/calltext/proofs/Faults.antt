@@ -12,8 +12,8 @@ use Rattle.plaintext.proofs.FirstFaults.{heads, closed_begin}
 use Rattle.calltext.specs.declared.call.CallLine.{CallLine}
 use Rattle.calltext.specs.declared.call.Policy.{Policy}
 use Rattle.calltext.specs.declared.call.Policy.TheVariants as policies
-use Rattle.calltext.specs.declared.line.LineFault.{LineFault}
-use Rattle.calltext.specs.declared.line.LineFault.TheVariants as wrong
+use Rattle.calltext.specs.declared.line.CallLineFault.{CallLineFault}
+use Rattle.calltext.specs.declared.line.CallLineFault.TheVariants as wrong
 use Rattle.calltext.specs.Readable.{AllHaveNames, IsReadableWithin}
 use Rattle.calltext.specs.Grammar.{ProgramText, call_words, ranks_words, policy_words, rank_words, rank_lines, program_lines, HasNames, IsInRange, CallFits, Fits, IsTextWithin}
 use Rattle.calltext.specs.Fault.{HasShape, CanGoOn, IsOutOfProfile, HasFaultWithin}
@@ -28,7 +28,7 @@ use Rattle.calltext.proofs.Verbs.{call_no_rank, call_no_end}
 
 -- ---- what is wrong with a line after the lines before it
 
-abbrev pub Judged : Limits → LineFault → List (List ℕ) → List ℕ → Type 0
+abbrev pub Judged : Limits → CallLineFault → List (List ℕ) → List ℕ → Type 0
 Judged limits wrong.Memory before line = ⊤
 Judged limits wrong.NotAscii before line = IsNotAscii line
 Judged limits wrong.Syntax before line = IsAscii line × ((place : ℕ) → IsOutOfProfile before line place → ⊥) × (HasShape (before ++ line ∷ []) → ⊥)
@@ -38,7 +38,7 @@ Judged limits wrong.Range before line = IsAscii line × HasShape (before ++ line
 shape_from : (limits : Limits) (lines : List (List ℕ)) → CanGoOn limits lines → HasShape lines
 shape_from limits lines (p, fits, begins) = (p, have_names limits p fits, begins)
 
-pub judged_fault : (limits : Limits) (fault : LineFault) (bytes : List ℕ) (before : List (List ℕ)) (line : List ℕ) (after : List (List ℕ)) (k : ℕ) → length bytes ≤ limits.bytes
+pub judged_fault : (limits : Limits) (fault : CallLineFault) (bytes : List ℕ) (before : List (List ℕ)) (line : List ℕ) (after : List (List ℕ)) (k : ℕ) → length bytes ≤ limits.bytes
     → text_lines bytes ≡ before ++ line ∷ after → k ≡ length before + 1 → CanGoOn limits before → Judged limits fault before line → HasFaultWithin limits bytes (at_line fault k)
 judged_fault limits wrong.Memory bytes before line after k small cut at good j = tt
 judged_fault limits wrong.NotAscii bytes before line after k small cut at good j =
@@ -114,13 +114,13 @@ good_ranks limits n low high = front limits (line_of (ranks_words n) ∷ []) (li
 ranks_line_injective : (m n : ℕ) → line_of (ranks_words m) ≡ line_of (ranks_words n) → m ≡ n
 ranks_line_injective m n e = ranks_injective m n (line_of_injective (ranks_words m) (ranks_words n) (omega arith) (omega arith) (plain_ranks m) (plain_ranks n) e)
 
-pub first_heading : (limits : Limits) (fault : LineFault) (bytes : List ℕ) → 1 ≤ limits.ranks → length bytes ≤ limits.bytes → BeginsWrong IsRanksLine (AreRanksWithin limits) fault bytes → HasFaultWithin limits bytes (at_line fault 1)
+pub first_heading : (limits : Limits) (fault : CallLineFault) (bytes : List ℕ) → 1 ≤ limits.ranks → length bytes ≤ limits.bytes → BeginsWrong IsRanksLine (AreRanksWithin limits) fault bytes → HasFaultWithin limits bytes (at_line fault 1)
 first_heading limits fault bytes some small (line, after, cut, w) = judged_fault limits fault bytes [] line after 1 small cut (omega arith) (good_nothing limits some) (judge fault w)
   where
     begins : (p : ProgramText) (more : List (List ℕ)) → to_end (program_lines p) ≡ ([] ++ line ∷ []) ++ more → line_of (ranks_words (length p.ranks)) ≡ line
     begins p more e = (heads (line_of (ranks_words (length p.ranks))) line _ more e).0
 
-    judge : (fault : LineFault) → IsWrongHeading IsRanksLine (AreRanksWithin limits) fault line → Judged limits fault [] line
+    judge : (fault : CallLineFault) → IsWrongHeading IsRanksLine (AreRanksWithin limits) fault line → Judged limits fault [] line
     judge wrong.Memory w = tt
     judge wrong.NotAscii w = w
     judge wrong.Syntax w = (w.0, λ x o. omega (arith, o.0), λ (p, _, (more, e)). w.1 (length p.ranks, begins p more e))
@@ -131,19 +131,19 @@ first_heading limits fault bytes some small (line, after, cut, w) = judged_fault
       λ (p, fits, (more, e)). over (length p.ranks, fits.some, fits.ranks, begins p more e),
     )
 
-pub second_heading : (limits : Limits) (fault : LineFault) (bytes rest : List ℕ) (n : ℕ) → length bytes ≤ limits.bytes → 1 ≤ n → n ≤ limits.ranks → text_lines bytes ≡ line_of (ranks_words n) ∷ text_lines rest
+pub second_heading : (limits : Limits) (fault : CallLineFault) (bytes rest : List ℕ) (n : ℕ) → length bytes ≤ limits.bytes → 1 ≤ n → n ≤ limits.ranks → text_lines bytes ≡ line_of (ranks_words n) ∷ text_lines rest
     → BeginsWrong IsPolicyLine IsPolicyLine fault rest → HasFaultWithin limits bytes (at_line fault 2)
 second_heading limits fault bytes rest n small low high first (line, after, cut, w) =
     judged_fault limits fault bytes (line_of (ranks_words n) ∷ []) line after 2 small (first ∙ ap (λ (ls : List (List ℕ)). line_of (ranks_words n) ∷ ls) cut) (omega arith) (good_ranks limits n low high) (judge fault w)
   where
-    judge : (fault : LineFault) → IsWrongHeading IsPolicyLine IsPolicyLine fault line → Judged limits fault (line_of (ranks_words n) ∷ []) line
+    judge : (fault : CallLineFault) → IsWrongHeading IsPolicyLine IsPolicyLine fault line → Judged limits fault (line_of (ranks_words n) ∷ []) line
     judge wrong.Memory w = tt
     judge wrong.NotAscii w = w
     judge wrong.Syntax w = (w.0, λ x o. omega (arith, o.0), λ (p, _, (more, e)). w.1 (p.policy, (heads (line_of (policy_words p.policy)) line _ more (heads _ (line_of (ranks_words n)) _ _ e).1).0))
     judge (wrong.OutOfProfile x) w = absurd w
     judge wrong.Range w = absurd (w.2 w.1)
 
-pub third_heading : (limits : Limits) (fault : LineFault) (bytes rest rest2 : List ℕ) (n : ℕ) (policy : Policy) → length bytes ≤ limits.bytes → 1 ≤ n → n ≤ limits.ranks
+pub third_heading : (limits : Limits) (fault : CallLineFault) (bytes rest rest2 : List ℕ) (n : ℕ) (policy : Policy) → length bytes ≤ limits.bytes → 1 ≤ n → n ≤ limits.ranks
     → text_lines bytes ≡ line_of (ranks_words n) ∷ text_lines rest → text_lines rest ≡ line_of (policy_words policy) ∷ text_lines rest2
     → BeginsWrong IsFirstRankLine IsFirstRankLine fault rest2 → HasFaultWithin limits bytes (at_line fault 3)
 third_heading limits fault bytes rest rest2 n policy small low high first second (line, after, cut, w) =
@@ -160,7 +160,7 @@ third_heading limits fault bytes rest rest2 n policy small low high first second
         let two = heads (line_of (policy_words p.policy)) (line_of (policy_words policy)) _ _ one.1 in
         first_rank p.ranks more (omega (arith, ranks_line_injective (length p.ranks) n one.0)) two.1
 
-    judge : (fault : LineFault) → IsWrongHeading IsFirstRankLine IsFirstRankLine fault line → Judged limits fault (line_of (ranks_words n) ∷ line_of (policy_words policy) ∷ []) line
+    judge : (fault : CallLineFault) → IsWrongHeading IsFirstRankLine IsFirstRankLine fault line → Judged limits fault (line_of (ranks_words n) ∷ line_of (policy_words policy) ∷ []) line
     judge wrong.Memory w = tt
     judge wrong.NotAscii w = w
     judge wrong.Syntax w = (w.0, λ x o. omega (arith, o.0), λ (p, _, (more, e)). w.1 (begins p more e))
@@ -200,7 +200,7 @@ names-push_call [] c keep h = tt
 names-push_call (d ∷ []) c keep h = (calls_push HasNames d c keep.0 h, tt)
 names-push_call (d ∷ e ∷ done) c keep h = (keep.0, names-push_call (e ∷ done) c keep.1 h)
 
-pub in_ranks : (limits : Limits) (fault : LineFault) (k : ℕ) (bytes rest rest2 rest3 : List ℕ) (n : ℕ) (policy : Policy) → length bytes ≤ limits.bytes → 1 ≤ n → n ≤ limits.ranks
+pub in_ranks : (limits : Limits) (fault : CallLineFault) (k : ℕ) (bytes rest rest2 rest3 : List ℕ) (n : ℕ) (policy : Policy) → length bytes ≤ limits.bytes → 1 ≤ n → n ≤ limits.ranks
     → text_lines bytes ≡ line_of (ranks_words n) ∷ text_lines rest → text_lines rest ≡ line_of (policy_words policy) ∷ text_lines rest2 → text_lines rest2 ≡ line_of (rank_words 0) ∷ text_lines rest3
     → StopsAt limits fault k n rest3 → HasFaultWithin limits bytes (at_line fault k)
 in_ranks limits fault k bytes rest rest2 rest3 n policy small low high first second third stop =
@@ -251,7 +251,7 @@ in_ranks limits fault k bytes rest rest2 rest3 n policy small low high first sec
           ]
         ]
 
-    judge : (fault : LineFault) → IsWrong limits fault (length done) n line → Judged limits fault before line
+    judge : (fault : CallLineFault) → IsWrong limits fault (length done) n line → Judged limits fault before line
     judge wrong.Memory w = tt
     judge wrong.NotAscii w = w
     judge wrong.Syntax w = (w.0, λ x o. w.3 x (o.1, o.2, o.3), nothing w.1 w.2)
@@ -262,7 +262,7 @@ in_ranks limits fault k bytes rest rest2 rest3 n policy small low high first sec
         long (d ∷ ds) some = omega arith
     judge wrong.Range w = (w.0, shaped w.1 w.2 w.3, over w.1 w.2 w.3 w.4)
 
-pub stopped : (limits : Limits) (fault : LineFault) (k : ℕ) (bytes rest rest2 rest3 : List ℕ) (n : ℕ) (policy : Policy) → length bytes ≤ limits.bytes → 1 ≤ n → n ≤ limits.ranks
+pub stopped : (limits : Limits) (fault : CallLineFault) (k : ℕ) (bytes rest rest2 rest3 : List ℕ) (n : ℕ) (policy : Policy) → length bytes ≤ limits.bytes → 1 ≤ n → n ≤ limits.ranks
     → text_lines bytes ≡ line_of (ranks_words n) ∷ text_lines rest → text_lines rest ≡ line_of (policy_words policy) ∷ text_lines rest2 → text_lines rest2 ≡ line_of (rank_words 0) ∷ text_lines rest3
     → IsStopped limits fault k n rest3 → HasFaultWithin limits bytes (at_line fault k)
 stopped limits wrong.Memory k bytes rest rest2 rest3 n policy small low high first second third stop = tt

@@ -19,8 +19,8 @@ use Rattle.calltext.specs.parts.Verbs.{operands, request_words, message_words, p
 use Rattle.calltext.specs.Verbs.{verb_of}
 use Rattle.calltext.specs.RefusedWords.{refused_word, refused_words}
 use Rattle.calltext.specs.parts.Capped.{capped_option, capped_call}
-use Rattle.calltext.specs.declared.line.LineFault.{LineFault}
-use Rattle.calltext.specs.declared.line.LineFault.TheVariants as wrong
+use Rattle.calltext.specs.declared.line.CallLineFault.{CallLineFault}
+use Rattle.calltext.specs.declared.line.CallLineFault.TheVariants as wrong
 use Rattle.calltext.specs.WiderLimits.{AreLimits}
 use Rattle.calltext.specs.declared.limits.Limits.{Limits}
 use Rattle.calltext.specs.parts.Item.{IsRefused, IsUnended, BeginsWrong}
@@ -185,7 +185,7 @@ item_range l line words found seen (c, names, spelled, capped) over =
 
 -- ---- headings
 
-pub unended_wrong : (shape within : List ℕ → Type 0) (fault : LineFault) (bytes : List ℕ) → text_lines bytes ≡ bytes ∷ [] → IsUnended fault bytes
+pub unended_wrong : (shape within : List ℕ → Type 0) (fault : CallLineFault) (bytes : List ℕ) → text_lines bytes ≡ bytes ∷ [] → IsUnended fault bytes
     → (shape bytes → (words : List (List ℕ)) × (line_of words ≡ bytes)) → BeginsWrong shape within fault bytes
 unended_wrong shape within wrong.Memory bytes one u lined = absurd u
 unended_wrong shape within wrong.NotAscii bytes one u lined = (bytes, [], one, u)

@@ -5,12 +5,12 @@ ghost use Rattle.calltext.specs.WiderLimits.{AreLimits};
 ghost use Rattle.calltext.specs.parts.Body.{HasRanks, IsStopped};
 ghost use Rattle.calltext.specs.Body.{views};
 ghost use Rattle.calltext.specs.declared.body.Stopped.{Stopped};
-ghost use Rattle.calltext.specs.declared.line.LineFault.TheVariants.{Memory};
+ghost use Rattle.calltext.specs.declared.line.CallLineFault.TheVariants.{Memory};
 
 use crate::call::CallLine;
 use crate::heading::unended;
 use crate::limits::Limits;
-use crate::line::{Item, LineFault, item_of};
+use crate::line::{Item, CallLineFault, item_of};
 use plaintext::next_line;
 use std::alloc::{AllocError, AllocFailed, Global};
 use std::mem;
@@ -18,12 +18,12 @@ use std::mem;
 /// Where reading stopped, and why.
 #[derive(Clone, Copy)]
 pub struct Stopped {
-    pub fault: LineFault,
+    pub fault: CallLineFault,
     pub line: usize,
 }
 
 impl Stopped {
-    fn at(line: usize, fault: LineFault) -> Stopped
+    fn at(line: usize, fault: CallLineFault) -> Stopped
         ensures { result ≡ record { fault = fault; line = line } }
     {
         Stopped { fault, line }
@@ -35,7 +35,7 @@ impl From<AllocError> for Stopped {
 
     fn from(_e: AllocError) -> Stopped {
         Stopped {
-            fault: LineFault::Memory,
+            fault: CallLineFault::Memory,
             line: 0,
         }
     }
@@ -46,7 +46,7 @@ impl<T: Drop> From<AllocFailed<T>> for Stopped {
 
     fn from(_e: AllocFailed<T>) -> Stopped {
         Stopped {
-            fault: LineFault::Memory,
+            fault: CallLineFault::Memory,
             line: 0,
         }
     }
@@ -90,7 +90,7 @@ pub fn ranks_from(
     }
     ranks.push(calls)?;
     if (ranks.len() as u32) < total {
-        return Err(Stopped::at(number, LineFault::Syntax));
+        return Err(Stopped::at(number, CallLineFault::Syntax));
     }
     Ok(ranks)
 }

@@ -5,7 +5,7 @@ ghost use Rattle.calltext.specs.Grammar.{IsInRange, IsCommunicator, UpTo, rank_w
 ghost use Rattle.calltext.specs.RefusedWords.{refused_word, refused_words};
 ghost use Rattle.calltext.specs.parts.Item.{IsItem, IsWrong};
 ghost use Rattle.calltext.specs.WiderLimits.{AreLimits};
-ghost use Rattle.calltext.specs.declared.line.LineFault.TheVariants.{Memory};
+ghost use Rattle.calltext.specs.declared.line.CallLineFault.TheVariants.{Memory};
 
 use crate::call::CallLine;
 use crate::calls::call_of;
@@ -24,7 +24,7 @@ pub enum Item {
 
 /// Why a line can't stand in its place.
 #[derive(Clone, Copy)]
-pub enum LineFault {
+pub enum CallLineFault {
     Memory,
     NotAscii,
     Syntax,
@@ -32,11 +32,11 @@ pub enum LineFault {
     Range,
 }
 
-impl From<AllocError> for LineFault {
+impl From<AllocError> for CallLineFault {
     ghost from_gives = { λ _ e. e ≡ Memory };
 
-    fn from(_e: AllocError) -> LineFault {
-        LineFault::Memory
+    fn from(_e: AllocError) -> CallLineFault {
+        CallLineFault::Memory
     }
 }
 
@@ -149,14 +149,14 @@ pub fn item_of(
     line: &[u8],
     next: u32,
     total: u32,
-) -> Result<Item, LineFault>
+) -> Result<Item, CallLineFault>
     requires limits { AreLimits limits }
     requires next { next ≤ 2147483647 }
     ensures ok { IfOk result (λ item. IsItem limits item next total (line.now ++ 10 ∷ [])) }
     ensures err { IfErr result (λ fault. IsWrong limits fault next total (line.now ++ 10 ∷ [])) }
 {
     if !line.is_ascii() {
-        return Err(LineFault::NotAscii);
+        return Err(CallLineFault::NotAscii);
     }
     let words = words_of(alloc, line)?;
     let found = call_of(alloc, &words)?;
@@ -164,13 +164,13 @@ pub fn item_of(
         if is_in_range(limits, &call) {
             return Ok(Item::Call(call));
         }
-        return Err(LineFault::Range);
+        return Err(CallLineFault::Range);
     }
     if rank_follows(&words, next, total) {
         return Ok(Item::Rank);
     }
     if let Some(word) = refused_in(&words) {
-        return Err(LineFault::OutOfProfile(word));
+        return Err(CallLineFault::OutOfProfile(word));
     }
-    Err(LineFault::Syntax)
+    Err(CallLineFault::Syntax)
 }

@@ -12,20 +12,20 @@ use crate::body::ranks_from;
 use crate::fault::ReadFault;
 use crate::heading::{first_rank_line, policy_line, ranks_line};
 use crate::limits::Limits;
-use crate::line::LineFault;
+use crate::line::CallLineFault;
 use crate::source::{LongSource, Source};
 use std::alloc::Global;
 
 /// The line's fault, told with the line's number.
-fn at_line(fault: LineFault, line: usize) -> ReadFault
+fn at_line(fault: CallLineFault, line: usize) -> ReadFault
     ensures { result ≡ at_line fault line }
 {
     match fault {
-        LineFault::Memory => ReadFault::Memory,
-        LineFault::NotAscii => ReadFault::NotAscii { line },
-        LineFault::Syntax => ReadFault::Syntax { line },
-        LineFault::OutOfProfile(word) => ReadFault::OutOfProfile { line, word },
-        LineFault::Range => ReadFault::Range { line },
+        CallLineFault::Memory => ReadFault::Memory,
+        CallLineFault::NotAscii => ReadFault::NotAscii { line },
+        CallLineFault::Syntax => ReadFault::Syntax { line },
+        CallLineFault::OutOfProfile(word) => ReadFault::OutOfProfile { line, word },
+        CallLineFault::Range => ReadFault::Range { line },
     }
 }
 

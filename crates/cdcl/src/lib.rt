@@ -17,5 +17,5 @@ mod search;
 mod solver;
 mod stamps;
 
-pub use search::{Counted, Ending, Step};
+pub use search::{Counted, Ending, SearchStep};
 pub use solver::{Found, SolveFault, Solver};

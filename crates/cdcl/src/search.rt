@@ -38,7 +38,7 @@ pub enum Ending {
 
 /// What comes of one step of a search.
 #[derive(Drop)]
-pub enum Step {
+pub enum SearchStep {
     /// The search goes on. A solver has counted a conflict then. What would end its search counts
     /// as one, too, where that can't be told: a line that no number is left for, or an assignment
     /// that isn't a model.
@@ -222,20 +222,20 @@ impl Engine {
         cube: &[Lit],
         conflict: ClauseRef,
         batch: &mut Batch,
-    ) -> Step
+    ) -> SearchStep
         ensures budget { IfEnded IsNotBudget result }
         ensures right { IfEnded (IsRight formula.now cube.now) result }
     {
         if self.known.level() == 0 {
             return match self.close_root(alloc, conflict, batch) {
-                Ok(Some(last)) => Step::Last(Ending::Closed(last)),
-                Ok(None) => Step::Going,
-                Err(_) => Step::Last(Ending::Memory),
+                Ok(Some(last)) => SearchStep::Last(Ending::Closed(last)),
+                Ok(None) => SearchStep::Going,
+                Err(_) => SearchStep::Last(Ending::Memory),
             };
         }
         match self.learn(alloc, conflict, batch) {
-            Ok(()) => Step::Going,
-            Err(_) => Step::Last(Ending::Memory),
+            Ok(()) => SearchStep::Going,
+            Err(_) => SearchStep::Last(Ending::Memory),
         }
     }
 
@@ -247,28 +247,28 @@ impl Engine {
         cube: &[Lit],
         falsified: LitIndex,
         batch: &mut Batch,
-    ) -> Step
+    ) -> SearchStep
         ensures budget { IfEnded IsNotBudget result }
         ensures right { IfEnded (IsRight formula.now cube.now) result }
     {
         match self.close_cube(alloc, falsified, batch) {
-            Ok(Some(last)) => Step::Ended(Ending::Closed(last)),
-            Ok(None) => Step::Going,
-            Err(_) => Step::Ended(Ending::Memory),
+            Ok(Some(last)) => SearchStep::Ended(Ending::Closed(last)),
+            Ok(None) => SearchStep::Going,
+            Err(_) => SearchStep::Ended(Ending::Memory),
         }
     }
 
     /// The end by a value for each variable.
-    fn take_complete(&self, alloc: Global, formula: &Formula, cube: &[Lit]) -> Step
+    fn take_complete(&self, alloc: Global, formula: &Formula, cube: &[Lit]) -> SearchStep
         ensures budget { IfEnded IsNotBudget result }
         ensures right { IfEnded (IsRight formula.now cube.now) result }
     {
         let Ok(values) = self.known.values(alloc) else {
-            return Step::Ended(Ending::Memory);
+            return SearchStep::Ended(Ending::Memory);
         };
         match checked(formula, cube, values) {
-            Some(assignment) => Step::Ended(Ending::Model(assignment)),
-            None => Step::Going,
+            Some(assignment) => SearchStep::Ended(Ending::Model(assignment)),
+            None => SearchStep::Going,
         }
     }
 
@@ -280,12 +280,12 @@ impl Engine {
         cube: &[Lit],
         literals: &[LitIndex],
         batch: &mut Batch,
-    ) -> Step
+    ) -> SearchStep
         ensures budget { IfEnded IsNotBudget result }
         ensures right { IfEnded (IsRight formula.now cube.now) result }
     {
         match self.advance(alloc, literals) {
-            Err(_) => Step::Ended(Ending::Memory),
+            Err(_) => SearchStep::Ended(Ending::Memory),
             Ok(Stop::Conflict(conflict)) => {
                 self.take_conflict(alloc, formula, cube, conflict, batch)
             }
@@ -318,15 +318,15 @@ impl Engine {
     {
         for before in 0..budget {
             match self.go_on(alloc, formula, cube, literals, batch) {
-                Step::Going => {}
-                Step::Spent => break,
-                Step::Last(ending) => {
+                SearchStep::Going => {}
+                SearchStep::Spent => break,
+                SearchStep::Last(ending) => {
                     return Counted {
                         ending,
                         conflicts: before + 1,
                     };
                 }
-                Step::Ended(ending) => {
+                SearchStep::Ended(ending) => {
                     return Counted {
                         ending,
                         conflicts: before,

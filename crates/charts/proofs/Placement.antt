@@ -15,7 +15,7 @@ use Rattle.callorder.specs.Calls.{both_hold}
 use Rattle.scene.specs.declared.acts.Act.{Act}
 use Rattle.scene.specs.declared.acts.Act.TheVariants.{Issue, Match, See}
 use Rattle.scene.specs.Labels.{Label}
-use Rattle.charts.specs.declared.placing.Placed.{Placed}
+use Rattle.charts.specs.declared.placing.PlacedAct.{PlacedAct}
 use Rattle.charts.specs.declared.placing.Shared.{Shared}
 use Rattle.charts.specs.declared.placing.Row.{Row}
 use Rattle.charts.specs.Columns.{ArePlacedInOrder, AreWaitsOfOneLine, KeepsOrder, column_from, column_if, column_of, is_wait, line_if, wait_line}
@@ -23,7 +23,7 @@ use Rattle.charts.specs.parts.Placing.{ArePlaced, IsFindAct, IsIssuedBeforeInRow
 
 -- ---- one more issue, or none
 
-column_push : (c so_far : ℕ) (xs : List Placed) (x : Placed) → column_from c so_far (xs ++ x ∷ []) ≡ column_if c (column_from c so_far xs) x.column x.act
+column_push : (c so_far : ℕ) (xs : List PlacedAct) (x : PlacedAct) → column_from c so_far (xs ++ x ∷ []) ≡ column_if c (column_from c so_far xs) x.column x.act
 column_push c so_far [] x = refl
 column_push c so_far (y ∷ ys) x = column_push c (column_if c so_far y.column y.act) ys x
 
@@ -164,7 +164,7 @@ issue_order p calls rows issues c v b call behind is next u (See s t) known =
       | inr one ↦ next.past u (passed p rows c t u call is known.1 one)
     ]
 
-issue_issued : (issues : List ℕ) (steps : List Placed) (c v : ℕ) (b : Bool) → c < length issues → ((d : ℕ) → slice_index issues d ≡ column_of steps d) → (d : ℕ) → slice_index (slice_set issues c v) d ≡ column_of (steps ++ record { act = Issue c b; column = v } ∷ []) d
+issue_issued : (issues : List ℕ) (steps : List PlacedAct) (c v : ℕ) (b : Bool) → c < length issues → ((d : ℕ) → slice_index issues d ≡ column_of steps d) → (d : ℕ) → slice_index (slice_set issues c v) d ≡ column_of (steps ++ record { act = Issue c b; column = v } ∷ []) d
 issue_issued issues steps c v b c_in old d =
     let pushed : column_of (steps ++ record { act = Issue c b; column = v } ∷ []) d ≡ (if d == c then v else column_of steps d) = column_push d 0 steps (record { act = Issue c b; column = v }) in
     elim (cases_eq d c) [
@@ -174,10 +174,10 @@ issue_issued issues steps c v b c_in old d =
           get_or-set_other issues c d v 0 differ ∙ old d ∙ sym (cond-false (d == c) v (column_of steps d) (ne_eqb d c differ)) ∙ sym pushed
     ]
 
-with_next : (p : MpiProgram) (calls : List Label) (rows : List Row) (issues : List ℕ) (count : ℕ) (steps : List Placed) (c v : ℕ) (b : Bool) (call : Call) (behind : Row) (more : ℕ) → call.rank < length rows → c < length issues → call_at p c ≡ Some call → ArePlaced p calls rows issues count steps → IsNext p calls (row_at rows call.rank) c v behind → v < more → count ≤ more → ArePlaced p calls (slice_set rows call.rank behind) (slice_set issues c v) more (steps ++ record { act = Issue c b; column = v } ∷ [])
+with_next : (p : MpiProgram) (calls : List Label) (rows : List Row) (issues : List ℕ) (count : ℕ) (steps : List PlacedAct) (c v : ℕ) (b : Bool) (call : Call) (behind : Row) (more : ℕ) → call.rank < length rows → c < length issues → call_at p c ≡ Some call → ArePlaced p calls rows issues count steps → IsNext p calls (row_at rows call.rank) c v behind → v < more → count ≤ more → ArePlaced p calls (slice_set rows call.rank behind) (slice_set issues c v) more (steps ++ record { act = Issue c b; column = v } ∷ [])
 with_next p calls rows issues count steps c v b call behind more rank_in c_in is old next left fewer =
-    let x : Placed = record { act = Issue c b; column = v } in
-    let known_then : Placed → Type 0 = IsKnownStep p calls (slice_set rows call.rank behind) (slice_set issues c v) in
+    let x : PlacedAct = record { act = Issue c b; column = v } in
+    let known_then : PlacedAct → Type 0 = IsKnownStep p calls (slice_set rows call.rank behind) (slice_set issues c v) in
     record {
       program = old.program;
       all_rows = length-set rows call.rank behind ∙ old.all_rows;
@@ -189,12 +189,12 @@ with_next p calls rows issues count steps c v b call behind more rank_in c_in is
             omega (arith, get_or-set_same issues c v 0 c_in),
           );
       issued = issue_issued issues steps c v b c_in old.issued;
-      within = All-push (λ (step : Placed). step.column < more) steps x (All-weaker (λ (step : Placed). step.column < count) (λ (step : Placed). step.column < more) (λ y h. omega (arith, h, fewer)) steps old.within) left;
+      within = All-push (λ (step : PlacedAct). step.column < more) steps x (All-weaker (λ (step : PlacedAct). step.column < count) (λ (step : PlacedAct). step.column < more) (λ y h. omega (arith, h, fewer)) steps old.within) left;
       order = all_pairs_push (ArePlacedInOrder p calls) steps x old.order (λ k d k_in. issue_order p calls rows issues c v b call behind is next (get_or steps k d).column (get_or steps k d).act (old.known k d k_in));
     }
 
 -- one more issue
-pub issue_placed : (p : MpiProgram) (calls : List Label) (rows : List Row) (issues : List ℕ) (count : ℕ) (steps : List Placed) (c : ℕ) (b : Bool) (call : Call) (more : ℕ) → call_at p c ≡ Some call → ArePlaced p calls rows issues count steps → column_in (row_at rows call.rank) (wait_line p calls c) < more → count ≤ more → ArePlaced p calls (slice_set rows call.rank (row_behind (row_at rows call.rank) (wait_line p calls c))) (slice_set issues c (column_in (row_at rows call.rank) (wait_line p calls c))) more (steps ++ record { act = Issue c b; column = column_in (row_at rows call.rank) (wait_line p calls c) } ∷ [])
+pub issue_placed : (p : MpiProgram) (calls : List Label) (rows : List Row) (issues : List ℕ) (count : ℕ) (steps : List PlacedAct) (c : ℕ) (b : Bool) (call : Call) (more : ℕ) → call_at p c ≡ Some call → ArePlaced p calls rows issues count steps → column_in (row_at rows call.rank) (wait_line p calls c) < more → count ≤ more → ArePlaced p calls (slice_set rows call.rank (row_behind (row_at rows call.rank) (wait_line p calls c))) (slice_set issues c (column_in (row_at rows call.rank) (wait_line p calls c))) more (steps ++ record { act = Issue c b; column = column_in (row_at rows call.rank) (wait_line p calls c) } ∷ [])
 issue_placed p calls rows issues count steps c b call more is old left fewer =
     with_next p calls rows issues count steps c (column_in (row_at rows call.rank) (wait_line p calls c)) b call (row_behind (row_at rows call.rank) (wait_line p calls c)) more (omega (arith, old.all_rows, (old.program.in_range c call is).own)) (omega (arith, old.all_issues, slice_get_within p.calls c call is)) is old (next p calls (row_at rows call.rank) c (old.each_row call.rank)) left fewer
 
@@ -271,12 +271,12 @@ find_order p calls rows issues s f v one other (See a b) is u (Match e x) known 
 find_order p calls rows issues s f v one other (See a b) is u (See e x) known = tt
 
 -- one more message that is found
-pub find_placed : (p : MpiProgram) (calls : List Label) (rows mid new : List Row) (issues : List ℕ) (count : ℕ) (steps : List Placed) (s f v : ℕ) (act : Act) (more : ℕ) → IsFindAct s f act → slice_index issues s ≤ v → slice_index issues f ≤ v → HasRaisedRow p s v rows mid → HasRaisedRow p f v mid new → ArePlaced p calls rows issues count steps → v < more → count ≤ more → ArePlaced p calls new issues more (steps ++ record { act = act; column = v } ∷ [])
+pub find_placed : (p : MpiProgram) (calls : List Label) (rows mid new : List Row) (issues : List ℕ) (count : ℕ) (steps : List PlacedAct) (s f v : ℕ) (act : Act) (more : ℕ) → IsFindAct s f act → slice_index issues s ≤ v → slice_index issues f ≤ v → HasRaisedRow p s v rows mid → HasRaisedRow p f v mid new → ArePlaced p calls rows issues count steps → v < more → count ≤ more → ArePlaced p calls new issues more (steps ++ record { act = act; column = v } ∷ [])
 find_placed p calls rows mid new issues count steps s f v act more is one other first second old left fewer =
     let up = raise_grown p s v rows mid old.program old.all_rows first in
     let high = raise_grown p f v mid new old.program (up.0.many ∙ old.all_rows) second in
     let grown : AreGrown rows new = both_grown rows mid new up.0 high.0 in
-    let x : Placed = record { act = act; column = v } in
+    let x : PlacedAct = record { act = act; column = v } in
     record {
       program = old.program;
       all_rows = grown.many ∙ old.all_rows;
@@ -285,19 +285,19 @@ find_placed p calls rows mid new issues count steps s f v act more is one other 
       known =
           All-push (IsKnownStep p calls new issues) steps x (All-weaker (IsKnownStep p calls rows issues) (IsKnownStep p calls new issues) (λ y h. grown_known p calls rows new issues grown y.column y.act h) steps old.known) (find_known p calls new issues s f v act is (grown_past p mid new high.0 s v up.1) high.1);
       issued = λ d. old.issued d ∙ sym (column_push d 0 steps x ∙ find_column s f d (column_of steps d) v act is);
-      within = All-push (λ (step : Placed). step.column < more) steps x (All-weaker (λ (step : Placed). step.column < count) (λ (step : Placed). step.column < more) (λ y h. omega (arith, h, fewer)) steps old.within) left;
+      within = All-push (λ (step : PlacedAct). step.column < more) steps x (All-weaker (λ (step : PlacedAct). step.column < count) (λ (step : PlacedAct). step.column < more) (λ y h. omega (arith, h, fewer)) steps old.within) left;
       order = all_pairs_push (ArePlacedInOrder p calls) steps x old.order (λ k d k_in. find_order p calls rows issues s f v one other act is (get_or steps k d).column (get_or steps k d).act (old.known k d k_in));
     }
 
 -- ---- equal tables
 
-pub same_placed : (p : MpiProgram) (calls : List Label) (rows more_rows : List Row) (issues more_issues : List ℕ) (count : ℕ) (steps more_steps : List Placed) → more_rows ≡ rows → more_issues ≡ issues → more_steps ≡ steps → ArePlaced p calls rows issues count steps → ArePlaced p calls more_rows more_issues count more_steps
+pub same_placed : (p : MpiProgram) (calls : List Label) (rows more_rows : List Row) (issues more_issues : List ℕ) (count : ℕ) (steps more_steps : List PlacedAct) → more_rows ≡ rows → more_issues ≡ issues → more_steps ≡ steps → ArePlaced p calls rows issues count steps → ArePlaced p calls more_rows more_issues count more_steps
 same_placed p calls rows more_rows issues more_issues count steps more_steps one two three placed =
-    subst (λ (x : List Row). ArePlaced p calls x more_issues count more_steps) (sym one) (subst (λ (x : List ℕ). ArePlaced p calls rows x count more_steps) (sym two) (subst (λ (x : List Placed). ArePlaced p calls rows issues count x) (sym three) placed))
+    subst (λ (x : List Row). ArePlaced p calls x more_issues count more_steps) (sym one) (subst (λ (x : List ℕ). ArePlaced p calls rows x count more_steps) (sym two) (subst (λ (x : List PlacedAct). ArePlaced p calls rows issues count x) (sym three) placed))
 
-pub acts_push : (steps more : List Placed) (x : Placed) → more ≡ steps ++ x ∷ [] → map (λ (step : Placed). step.act) more ≡ map (λ (step : Placed). step.act) steps ++ x.act ∷ []
+pub acts_push : (steps more : List PlacedAct) (x : PlacedAct) → more ≡ steps ++ x ∷ [] → map (λ (step : PlacedAct). step.act) more ≡ map (λ (step : PlacedAct). step.act) steps ++ x.act ∷ []
 acts_push steps more x is =
-    ap (λ (xs : List Placed). map (λ (step : Placed). step.act) xs) is ∙ map-append (λ (step : Placed). step.act) steps (x ∷ [])
+    ap (λ (xs : List PlacedAct). map (λ (step : PlacedAct). step.act) xs) is ∙ map-append (λ (step : PlacedAct). step.act) steps (x ∷ [])
 
 -- ---- before the first step
 
@@ -317,7 +317,7 @@ none_placed p calls rows issues kept rows_are issues_are =
       each_row = λ q. subst SharesNoFreeColumn (sym (at_same p.ranks q empty_row)) (λ shared e. absurd (false≢true (ap is_some e)));
       known = All-nil (IsKnownStep p calls (replicate p.ranks empty_row) (replicate (length p.calls) 0));
       issued = λ c. at_same (length p.calls) c 0;
-      within = All-nil (λ (step : Placed). step.column < 0);
+      within = All-nil (λ (step : PlacedAct). step.column < 0);
       order = λ i j d before within. let never : ⊥ = omega (arith, within) in absurd never;
     }
     ))

@@ -7,7 +7,7 @@ use Rattle.callorder.specs.Programs.{MpiProgram, call_at, are_of_one_rank}
 use Rattle.scene.specs.declared.acts.Act.{Act}
 use Rattle.scene.specs.declared.acts.Act.TheVariants.{Issue, Match, See}
 use Rattle.scene.specs.Labels.{Label}
-use Rattle.charts.specs.declared.placing.Placed.{Placed}
+use Rattle.charts.specs.declared.placing.PlacedAct.{PlacedAct}
 
 abbrev pub is_wait_call : Option Call → Bool
 is_wait_call None = false
@@ -46,16 +46,16 @@ KeepsOrder p calls (Match s t) u (See q r) v = Unit {0}
 KeepsOrder p calls (See s f) u (Match q r) v = Unit {0}
 KeepsOrder p calls (See s f) u (See q r) v = Unit {0}
 
-abbrev pub ArePlacedInOrder : MpiProgram → List Label → Placed → Placed → Type 0
+abbrev pub ArePlacedInOrder : MpiProgram → List Label → PlacedAct → PlacedAct → Type 0
 ArePlacedInOrder p calls one other = KeepsOrder p calls one.act one.column other.act other.column
 
 -- These steps stand in so many columns, each in one. A reader may rely on it that a box further
 -- right is a later call of its rank, and that what an arrow points to was issued no later than the
 -- column where the arrow ends. Columns of different ranks that no message ties together say nothing
 -- of which came first, and a step need not stand in the first column that it could have.
-pub record AreColumns (p : MpiProgram) (calls : List Label) (acts : List Act) (count : ℕ) (steps : List Placed) : Type 0 where
-  pub each : map (λ (step : Placed). step.act) steps ≡ acts
-  pub within : All (λ (step : Placed). step.column < count) steps
+pub record AreColumns (p : MpiProgram) (calls : List Label) (acts : List Act) (count : ℕ) (steps : List PlacedAct) : Type 0 where
+  pub each : map (λ (step : PlacedAct). step.act) steps ≡ acts
+  pub within : All (λ (step : PlacedAct). step.column < count) steps
   pub order : AllPairs (ArePlacedInOrder p calls) steps
 
 -- ---- where a call is issued
@@ -65,10 +65,10 @@ column_if c so_far column (Issue d b) = if c == d then column else so_far
 column_if c so_far column (Match s t) = so_far
 column_if c so_far column (See s f) = so_far
 
-abbrev pub column_from : ℕ → ℕ → List Placed → ℕ
+abbrev pub column_from : ℕ → ℕ → List PlacedAct → ℕ
 column_from c so_far [] = so_far
 column_from c so_far (step ∷ steps) = column_from c (column_if c so_far step.column step.act) steps
 
 -- the column of the issue of a call; the first one where its issue isn't among the steps
-abbrev pub column_of : List Placed → ℕ → ℕ
+abbrev pub column_of : List PlacedAct → ℕ → ℕ
 column_of steps c = column_from c 0 steps

@@ -22,7 +22,7 @@ use Rattle.scene.specs.declared.acts.Act.TheVariants.{Issue, Match, See}
 use Rattle.scene.specs.Acts.{acts_from}
 use Rattle.scene.specs.Ends.{IsCycleOrNone}
 use Rattle.scene.specs.Labels.{Label, call_labels, shortened}
-use Rattle.charts.specs.declared.placing.Placed.{Placed}
+use Rattle.charts.specs.declared.placing.PlacedAct.{PlacedAct}
 use Rattle.charts.specs.Chart.{columns}
 use Rattle.charts.specs.Columns.{AreColumns, column_of}
 use Rattle.charts.specs.Cuts.{undrawn, undrawn_text}
@@ -130,7 +130,7 @@ drawn_box p m calls count column (Issue c buffered) = drawn_issue_of p.ranks cou
 drawn_box p m calls count column (Match s t) = []
 drawn_box p m calls count column (See s f) = []
 
-abbrev pub box_of : MpiProgram → Configuration → List Label → ℕ → Placed → List ℕ
+abbrev pub box_of : MpiProgram → Configuration → List Label → ℕ → PlacedAct → List ℕ
 box_of p m calls count step = drawn_box p m calls count step.column step.act
 
 -- ---- the arrow of a message that is taken or seen
@@ -192,7 +192,7 @@ drawn_arrow ranks calls count at marks column (Match s t) =
 drawn_arrow ranks calls count at marks column (See s f) =
     drawn_find_of ranks count (at s) column (is_chosen marks f) (slice_get calls s) true (slice_get calls f)
 
-abbrev pub arrow_of : ℕ → List Label → ℕ → (ℕ → ℕ) → List Bool → Placed → List ℕ
+abbrev pub arrow_of : ℕ → List Label → ℕ → (ℕ → ℕ) → List Bool → PlacedAct → List ℕ
 arrow_of ranks calls count at marks step = drawn_arrow ranks calls count at marks step.column step.act
 
 -- ---- the row of a rank
@@ -289,12 +289,12 @@ top well ranks count = head well (edge count + 460) (y_of ranks ranks + 20)
 -- a box for each issue, in order, an arrow for each message that is taken or seen, in order, an arc
 -- for each rank of the cycle, and the foot. Whether all ranks finish, so many columns, the steps in
 -- them, the cycle, and the marks of those that find a chosen message are given.
-abbrev pub picture_at : Bool → MpiProgram → Configuration → List Label → ℕ → (ℕ → ℕ) → List Placed → List ℕ → List Bool → ℕ → List ℕ
+abbrev pub picture_at : Bool → MpiProgram → Configuration → List Label → ℕ → (ℕ → ℕ) → List PlacedAct → List ℕ → List Bool → ℕ → List ℕ
 picture_at well p m calls count at steps cycle marks before =
     top well p.ranks count
     ++ (undrawn_text before ++ (columns (rank_row p m calls count at cycle) p.ranks ++ (flat_map (box_of p m calls count) steps ++ (flat_map (arrow_of p.ranks calls count at marks) steps ++ (columns (arc_at p.ranks count cycle) (length cycle) ++ codes "</svg>\n")))))
 
-abbrev pub picture_with : Bool → MpiProgram → Configuration → List Label → ℕ → List Placed → List ℕ → List Bool → ℕ → List ℕ
+abbrev pub picture_with : Bool → MpiProgram → Configuration → List Label → ℕ → List PlacedAct → List ℕ → List Bool → ℕ → List ℕ
 picture_with well p m calls count steps cycle marks before = picture_at well p m calls count (column_of steps) steps cycle marks before
 
 -- the steps are a run that gets stuck, or one in which all ranks finish
@@ -307,7 +307,7 @@ IsRunToEnd p steps = IsStuckRun p steps ⊎ IsFinishedRun p steps
 pub record IsPicture (text : List ℕ) (source : ProgramText) (p : MpiProgram) (steps : List Step) (picture : List ℕ) : Type 0 where
   pub well : Bool
   pub count : ℕ
-  pub placed : List Placed
+  pub placed : List PlacedAct
   pub awaited : List (Vec ℕ)
   pub cycle : List ℕ
   pub marks : List Bool

@@ -10,10 +10,10 @@ ghost use Rattle.charts.specs.Chart.{columns};
 ghost use Rattle.charts.specs.Picture.{IsPicture, IsRunToEnd, arc, arc_at, arc_between, arc_title, arrow_of, bar, bend, box, box_head, box_of, by_width, colour_of_call, colour_of_kind, dash_of, drawn_arrow, drawn_box, drawn_find, drawn_find_of, drawn_issue, drawn_issue_of, edge, end_words, escape, find_title, finished, head, hop, is_chosen, is_in, is_left_send, find_link, box_mark, name, name_colour, picture_at, rank_end, rank_row, row_head, straight, stroke_of, stub, tip_of, title, told_words, top, verb, waiting, waits_in, way, x_of, y_of};
 
 use crate::cutting::{behind, put_undrawn_text, undrawn};
-use crate::placing::{Columns, Placed, columns_of, issued_in};
+use crate::placing::{StepColumns, PlacedAct, columns_of, issued_in};
 use callorder::{Call, Kind, LongProgram};
 use calltext::{LongSource, Mode};
-use scene::{Act, CallLabel, Choice, choices_of, is_large, play, scene_of, shortened};
+use scene::{Act, CallLabel, RunChoice, choices_of, is_large, play, scene_of, shortened};
 use semantics::{State, Step};
 use std::alloc::{AllocError, Global};
 use writing::{Part, put_number, put_parts, put_text};
@@ -323,7 +323,7 @@ fn put_drawn_box(
     end: &State,
     calls: &[CallLabel],
     count: usize,
-    step: Placed,
+    step: PlacedAct,
 ) -> Result<(), AllocError>
     ensures { OnOk result (out.new.items ≡ out.old.items ++ drawn_box program.now end.now calls.now count step.column step.act) }
 {
@@ -357,7 +357,7 @@ fn put_boxes(
     end: &State,
     calls: &[CallLabel],
     count: usize,
-    steps: &[Placed],
+    steps: &[PlacedAct],
 ) -> Result<(), AllocError>
     ensures { OnOk result (out.new.items ≡ out.old.items ++ flat_map (box_of program.now end.now calls.now count) steps.now) }
 {
@@ -578,9 +578,9 @@ fn put_drawn_arrow(
     out: &mut Vec<u8>,
     ranks: u32,
     calls: &[CallLabel],
-    placed: &Columns,
+    placed: &StepColumns,
     marks: &[bool],
-    step: Placed,
+    step: PlacedAct,
 ) -> Result<(), AllocError>
     ensures { OnOk result (out.new.items ≡
         out.old.items ++ drawn_arrow ranks calls.now placed.now.count (slice_index placed.now.issues.items)
@@ -613,7 +613,7 @@ fn put_arrows(
     out: &mut Vec<u8>,
     ranks: u32,
     calls: &[CallLabel],
-    placed: &Columns,
+    placed: &StepColumns,
     marks: &[bool],
 ) -> Result<(), AllocError>
     ensures { OnOk result (out.new.items ≡
@@ -766,7 +766,7 @@ fn put_rank_end(
     program: &LongProgram,
     end: &State,
     calls: &[CallLabel],
-    placed: &Columns,
+    placed: &StepColumns,
     rank: u32,
 ) -> Result<(), AllocError>
     ensures { OnOk result (out.new.items ≡
@@ -789,7 +789,7 @@ fn put_row(
     program: &LongProgram,
     end: &State,
     calls: &[CallLabel],
-    placed: &Columns,
+    placed: &StepColumns,
     cycle: &[u32],
     rank: u32,
 ) -> Result<(), AllocError>
@@ -817,7 +817,7 @@ fn put_rows(
     program: &LongProgram,
     end: &State,
     calls: &[CallLabel],
-    placed: &Columns,
+    placed: &StepColumns,
     cycle: &[u32],
 ) -> Result<(), AllocError>
     ensures { OnOk result (out.new.items ≡
@@ -1009,7 +1009,7 @@ fn marks_of(alloc: Global, program: &LongProgram, steps: &[Step]) -> Result<Vec<
         return Ok(marks);
     }
     for choice in &choices_of(alloc, program, steps)? {
-        if let Choice::Found { finder, .. } = choice
+        if let RunChoice::Found { finder, .. } = choice
             && let Some(mark) = marks.get_mut(*finder)
         {
             *mark = true;
@@ -1033,7 +1033,7 @@ fn put_picture(
     program: &LongProgram,
     end: &State,
     calls: &[CallLabel],
-    placed: &Columns,
+    placed: &StepColumns,
     cycle: &[u32],
     marks: &[bool],
     before: usize,
@@ -1060,7 +1060,7 @@ fn picture_of(
     program: &LongProgram,
     end: &State,
     calls: &[CallLabel],
-    placed: &Columns,
+    placed: &StepColumns,
     cycle: &[u32],
     marks: &[bool],
     before: usize,

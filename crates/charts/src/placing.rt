@@ -11,7 +11,7 @@ use std::alloc::{AllocError, Global};
 
 /// A step, and the column that it stands in, from 0.
 #[derive(Clone, Copy)]
-pub struct Placed {
+pub struct PlacedAct {
     pub act: Act,
     pub column: usize,
 }
@@ -34,9 +34,9 @@ struct Row {
 
 /// Steps in columns.
 #[derive(Drop)]
-pub struct Columns {
+pub struct StepColumns {
     /// The steps, in order.
-    pub steps: Vec<Placed>,
+    pub steps: Vec<PlacedAct>,
     /// For each call the column that it is issued in; 0 where it isn't.
     pub issues: Vec<usize>,
     /// How many columns there are.
@@ -184,7 +184,7 @@ fn raise(
     Ok(())
 }
 
-impl Columns {
+impl StepColumns {
     /// Adds a step in a column.
     fn push(&mut self, act: Act, column: usize) -> Result<(), AllocError>
         ensures { OnOk result ((self.new.steps.items ≡
@@ -193,7 +193,7 @@ impl Columns {
             (column < self.new.count) × (self.old.count ≤ self.new.count)) }
     {
         let next = next_column(column)?;
-        self.steps.push(Placed { act, column })?;
+        self.steps.push(PlacedAct { act, column })?;
         if self.count < next {
             self.count = next;
         }
@@ -269,11 +269,11 @@ pub fn columns_of(
     program: &LongProgram,
     calls: &[CallLabel],
     acts: &[Act],
-) -> Result<Columns, AllocError>
+) -> Result<StepColumns, AllocError>
     ensures columns { IfOk result (λ columns. AreColumns program.now calls.now acts.now columns.count columns.steps.items) }
     ensures issues { IfOk result (λ columns. (c : ℕ) → slice_index columns.issues.items c ≡ column_of columns.steps.items c) }
 {
-    let mut columns = Columns {
+    let mut columns = StepColumns {
         steps: Vec::new(alloc),
         issues: vec![in alloc; 0; program.calls().len()]?,
         count: 0,

@@ -5,7 +5,7 @@ use Rattle.callorder.specs.Resolving.{IsTextOf}
 use Rattle.callorder.proofs.FirstFaults.{one_program_of_bytes}
 use Rattle.semantics.specs.declared.state.Step.{Step}
 use Rattle.semantics.specs.Machine.{IsStuckRun, opening, after_all}
-use Rattle.narrowing.specs.declared.taken.Taken.{Taken}
+use Rattle.narrowing.specs.declared.taken.ChoiceTaken.{ChoiceTaken}
 use Rattle.narrowing.specs.Laws.{NeverStuckSo, IsTakenSo}
 use Rattle.narrowing.proofs.Never.{taken_where_never_otherwise}
 use Rattle.checker.proofs.Headlines.{is_program}
@@ -13,7 +13,7 @@ use Rattle.choices.specs.declared.items.Choice.{Choice}
 use Rattle.choices.specs.Weights.{IsKnownToBeNeeded, NeverWith, KnownIsTaken}
 
 -- of the program in which the call leaves open no more than this way no run ends stuck
-never_so : (text : List ℕ) (number : ℕ) (p : MpiProgram) (call : ℕ) (taken : Taken) → NeverWith text number p call taken → NeverStuckSo p call taken
+never_so : (text : List ℕ) (number : ℕ) (p : MpiProgram) (call : ℕ) (taken : ChoiceTaken) → NeverWith text number p call taken → NeverStuckSo p call taken
 never_so text number p call taken never =
     record {
       narrowed = never.is_narrowed.narrowed;

@@ -8,7 +8,7 @@ use Rattle.plaintext.proofs.Texts.{joined-lines}
 use Rattle.choices.specs.parts.Pins.{AreAround, IsPastLines}
 use Rattle.choices.specs.Pins.{IsPinned, concatenated_lines}
 use Rattle.choices.specs.Words.{line_with}
-use Rattle.narrowing.specs.declared.taken.Taken.{Taken}
+use Rattle.narrowing.specs.declared.taken.ChoiceTaken.{ChoiceTaken}
 
 -- past one more line
 pub past_more : (text : List ℕ) (count : ℕ) (rest line next : List ℕ) → IsPastLines text count rest → text_lines rest ≡ (line ++ 10 ∷ []) ∷ text_lines next → IsPastLines text (count + 1) next
@@ -51,7 +51,7 @@ regroup : (a b c d : List ℕ) → ((a ++ b) ++ c) ++ d ≡ a ++ ((b ++ c) ++ d)
 regroup a b c d = simp append_assoc
 
 -- what stands around a line, with other words between, is the pinned text
-pub pinned_of : (text : List ℕ) (number : ℕ) (taken : Taken) (front old back pinned : List ℕ) → AreAround text number front old back
+pub pinned_of : (text : List ℕ) (number : ℕ) (taken : ChoiceTaken) (front old back pinned : List ℕ) → AreAround text number front old back
     → pinned ≡ ((front ++ line_with taken old) ++ 10 ∷ []) ++ back → IsPinned text number taken pinned
 pinned_of text number taken front old back pinned around is =
     let line = line_with taken old in record {

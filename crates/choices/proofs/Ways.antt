@@ -7,32 +7,32 @@ use Rattle.std.proofs.lemmas.Option.{slice_get-get_or}
 use Rattle.callorder.specs.Programs.{MpiProgram}
 use Rattle.choices.specs.declared.asking.Way.{Way}
 use Rattle.choices.specs.declared.asking.Way.TheVariants.{Hangs, Never}
-use Rattle.narrowing.specs.declared.taken.Taken.{Taken}
+use Rattle.narrowing.specs.declared.taken.ChoiceTaken.{ChoiceTaken}
 use Rattle.choices.specs.declared.items.Choice.{Choice}
 use Rattle.choices.specs.declared.items.Weighed.{Weighed}
 use Rattle.choices.specs.parts.Weights.{IsWayWith}
 use Rattle.choices.specs.Weights.{AreNever, AreWeighed, HangsWith, IsWeighed, NeverWith, SomeHangs}
 
 -- the way at a place hangs
-pub some_hangs : (text : List ℕ) (number : ℕ) (p : MpiProgram) (call : ℕ) (read others : List Taken) (i : ℕ) (d : Taken) (way : Way) → i < length others → read ≡ others → way ≡ Hangs
+pub some_hangs : (text : List ℕ) (number : ℕ) (p : MpiProgram) (call : ℕ) (read others : List ChoiceTaken) (i : ℕ) (d : ChoiceTaken) (way : Way) → i < length others → read ≡ others → way ≡ Hangs
     → IsWayWith text number p call (get_or read i d) way → SomeHangs text number others
 some_hangs text number p call read others i d way within same hangs known = (
   i,
   get_or others i d,
   slice_get-get_or others i d within,
-  subst (λ (xs : List Taken). HangsWith text number (get_or xs i d)) same (subst (IsWayWith text number p call (get_or read i d)) hangs known),
+  subst (λ (xs : List ChoiceTaken). HangsWith text number (get_or xs i d)) same (subst (IsWayWith text number p call (get_or read i d)) hangs known),
 )
 
 -- one more way never hangs
-pub never_more : (text : List ℕ) (p : MpiProgram) (choice : Choice) (read others : List Taken) (i : ℕ) (d : Taken) (way : Way) → i < length others → read ≡ others → way ≡ Never
+pub never_more : (text : List ℕ) (p : MpiProgram) (choice : Choice) (read others : List ChoiceTaken) (i : ℕ) (d : ChoiceTaken) (way : Way) → i < length others → read ≡ others → way ≡ Never
     → IsWayWith text choice.line p choice.call (get_or read i d) way → AreNever text p choice (take i others) → AreNever text p choice (take (i + 1) others)
 never_more text p choice read others i d way within same never known before =
     let here : NeverWith text choice.line p choice.call (get_or others i d) =
-    subst (λ (xs : List Taken). NeverWith text choice.line p choice.call (get_or xs i d)) same (subst (IsWayWith text choice.line p choice.call (get_or read i d)) never known) in
-    subst (AreNever text p choice) (sym (take_more others i d within)) (All-push (λ (x : Taken). NeverWith text choice.line p choice.call x) (take i others) (get_or others i d) before here)
+    subst (λ (xs : List ChoiceTaken). NeverWith text choice.line p choice.call (get_or xs i d)) same (subst (IsWayWith text choice.line p choice.call (get_or read i d)) never known) in
+    subst (AreNever text p choice) (sym (take_more others i d within)) (All-push (λ (x : ChoiceTaken). NeverWith text choice.line p choice.call x) (take i others) (get_or others i d) before here)
 
 -- none of all ways hangs
-pub never_any : (text : List ℕ) (p : MpiProgram) (choice : Choice) (others : List Taken) (i : ℕ) → i ≤ length others → length others ≤ i → AreNever text p choice (take i others) → AreNever text p choice others
+pub never_any : (text : List ℕ) (p : MpiProgram) (choice : Choice) (others : List ChoiceTaken) (i : ℕ) → i ≤ length others → length others ≤ i → AreNever text p choice (take i others) → AreNever text p choice others
 never_any text p choice others i within past all =
     let at : i ≡ length others = omega arith in
     subst (AreNever text p choice) (ap (λ (n : ℕ). take n others) at ∙ take-length others) all

@@ -4,7 +4,7 @@ use Rattle.callorder.specs.Programs.{MpiProgram}
 use Rattle.callorder.specs.Resolving.{IsTextOf}
 use Rattle.semantics.specs.declared.state.Step.{Step}
 use Rattle.semantics.specs.Machine.{IsStuckRun, opening, after_all}
-use Rattle.narrowing.specs.declared.taken.Taken.{Taken}
+use Rattle.narrowing.specs.declared.taken.ChoiceTaken.{ChoiceTaken}
 use Rattle.narrowing.specs.Ways.{AreOtherWays}
 use Rattle.narrowing.specs.Narrowed.{IsNarrowed}
 use Rattle.narrowing.specs.Laws.{LeavesOpen, IsTakenSo}
@@ -13,8 +13,8 @@ use Rattle.prover.specs.Answers.{CanHang}
 use Rattle.choices.specs.Pins.{IsPinned}
 use Rattle.choices.specs.declared.asking.Way.TheVariants as ways
 use Rattle.choices.specs.declared.items.Choice.{Choice}
-use Rattle.choices.specs.declared.items.Need.{Need}
-use Rattle.choices.specs.declared.items.Need.TheVariants as needs
+use Rattle.choices.specs.declared.items.ChoiceNeed.{ChoiceNeed}
+use Rattle.choices.specs.declared.items.ChoiceNeed.TheVariants as needs
 use Rattle.choices.specs.declared.items.Weighed.{Weighed}
 
 -- The choice is one of the program: its call leaves it open, and its other ways are all that there
@@ -25,25 +25,25 @@ pub record IsChoiceOf (p : MpiProgram) (choice : Choice) : Type 0 where
 
 -- with other words in the place of the line of this number, which leave open no more than this, the
 -- text is a program's that has a run that ends stuck
-abbrev pub HangsWith : List ℕ → ℕ → Taken → Type 0
+abbrev pub HangsWith : List ℕ → ℕ → ChoiceTaken → Type 0
 HangsWith text number taken = (pinned : List ℕ) × IsPinned text number taken pinned × CanHang pinned
 
 -- The text is that of the program in which this call leaves open no more than this way.
-pub record IsNarrowedText (p : MpiProgram) (call : ℕ) (taken : Taken) (text : List ℕ) : Type 0 where
+pub record IsNarrowedText (p : MpiProgram) (call : ℕ) (taken : ChoiceTaken) (text : List ℕ) : Type 0 where
   pub narrowed : MpiProgram
   pub is_text : IsTextOf text narrowed
   pub is_narrowed : IsNarrowed p call taken narrowed
 
 -- With such words in the place of the line of this number the text is that of the program in which
 -- this call leaves open no more than this way, and no run of it ends stuck.
-pub record NeverWith (text : List ℕ) (number : ℕ) (p : MpiProgram) (call : ℕ) (taken : Taken) : Type 0 where
+pub record NeverWith (text : List ℕ) (number : ℕ) (p : MpiProgram) (call : ℕ) (taken : ChoiceTaken) : Type 0 where
   pub pinned : List ℕ
   pub is_pinned : IsPinned text number taken pinned
   pub is_narrowed : IsNarrowedText p call taken pinned
   pub never : IsNeverStuck pinned
 
 -- in each of these ways no run ends stuck
-abbrev pub AreNever : List ℕ → MpiProgram → Choice → List Taken → Type 0
+abbrev pub AreNever : List ℕ → MpiProgram → Choice → List ChoiceTaken → Type 0
 AreNever text p choice others = All (λ taken. NeverWith text choice.line p choice.call taken) others
 
 -- there are other ways, and in none of them a run ends stuck
@@ -52,8 +52,8 @@ pub record NoneHangs (text : List ℕ) (p : MpiProgram) (choice : Choice) : Type
   pub never : AreNever text p choice choice.others.items
 
 -- in some of these ways a run ends stuck
-abbrev pub SomeHangs : List ℕ → ℕ → List Taken → Type 0
-SomeHangs text number others = (place : ℕ) × (taken : Taken) × (slice_get others place ≡ Some taken) × HangsWith text number taken
+abbrev pub SomeHangs : List ℕ → ℕ → List ChoiceTaken → Type 0
+SomeHangs text number others = (place : ℕ) × (taken : ChoiceTaken) × (slice_get others place ≡ Some taken) × HangsWith text number taken
 
 -- The choice is one of the text's program, with all of its other ways, of which there are some, and
 -- in none of which a run ends stuck.
@@ -67,7 +67,7 @@ pub record IsKnownToBeNeeded (text : List ℕ) (choice : Choice) : Type 0 where
 -- run that ends stuck. Where it is known to be needed, no run ends stuck where the line says any
 -- other way, and the other ways are all that there are. Where it is told not to be needed, some run
 -- ends stuck where it says another way.
-abbrev pub IsWeighed : List ℕ → Choice → Need → Type 0
+abbrev pub IsWeighed : List ℕ → Choice → ChoiceNeed → Type 0
 IsWeighed text choice needs.Known = HangsWith text choice.line choice.taken × IsKnownToBeNeeded text choice
 IsWeighed text choice needs.Tried = HangsWith text choice.line choice.taken
 IsWeighed text choice needs.No = HangsWith text choice.line choice.taken × SomeHangs text choice.line choice.others.items

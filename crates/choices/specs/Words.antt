@@ -3,8 +3,8 @@ use Rattle.std.specs.Prelude.{ℕ, ◌+◌, ◌-◌, ◌==◌, if◌then◌else�
 use Rattle.std.specs.Cmp.Lexicographic.{pointwise}
 use Rattle.std.specs.List.{slice_split, starts_with}
 use Rattle.plaintext.specs.Plain.{numeral}
-use Rattle.narrowing.specs.declared.taken.Taken.{Taken}
-use Rattle.narrowing.specs.declared.taken.Taken.TheVariants as taken
+use Rattle.narrowing.specs.declared.taken.ChoiceTaken.{ChoiceTaken}
+use Rattle.narrowing.specs.declared.taken.ChoiceTaken.TheVariants as taken
 
 abbrev pub are_same_bytes : List ℕ → List ℕ → Bool
 are_same_bytes = pointwise (λ x y. x == y)
@@ -71,7 +71,7 @@ mode_line letter line = if is_joined line then four_lines letter (slice_split (�
 
 -- the line with words that leave open no more than what a run did: a buffered send is one in
 -- buffered mode, another one is synchronous
-abbrev pub line_with : Taken → List ℕ → List ℕ
+abbrev pub line_with : ChoiceTaken → List ℕ → List ℕ
 line_with taken.Buffered line = mode_line 98 line
 line_with taken.NotBuffered line = mode_line 115 line
 line_with (taken.Message source tag) line = message_line source tag line

@@ -11,7 +11,7 @@ use crate::items::Choice;
 use crate::pinning::with_choice;
 use callorder::{LongProgram, Program};
 use checker::program_of;
-use narrowing::{Taken, is_narrowed};
+use narrowing::{ChoiceTaken, is_narrowed};
 use prover::{Answer, Gate, Options, Reason, Until, Why, prove, walk_ends};
 use semantics::{End, ReplayFault, Step, replay};
 use std::alloc::{AllocError, Global};
@@ -72,7 +72,7 @@ fn walked(alloc: Global, text: &[u8]) -> Result<Way, AllocError>
 
 /// Whether the second program is the first one, but that this call of it leaves open no more than
 /// this way.
-fn is_narrowed_to(program: &LongProgram, call: usize, way: Taken, narrowed: &Program) -> bool
+fn is_narrowed_to(program: &LongProgram, call: usize, way: ChoiceTaken, narrowed: &Program) -> bool
     ensures { IsTrue result → IsNarrowed program.now call way narrowed.now }
 {
     is_narrowed(program, call, way, narrowed)
@@ -83,7 +83,7 @@ fn is_narrowed_text(
     alloc: Global,
     program: &LongProgram,
     call: usize,
-    way: Taken,
+    way: ChoiceTaken,
     text: &[u8],
 ) -> Result<bool, AllocError>
     ensures { IfOk result (λ is. IsTrue is → IsNarrowedText program.now call way text.now) }
@@ -120,7 +120,7 @@ pub fn way_with<R: Threads + Wait + Sync>(
     text: &[u8],
     program: &LongProgram,
     choice: &Choice,
-    taken: Taken,
+    taken: ChoiceTaken,
     search: Option<Options>,
 ) -> Result<Way, AllocError>
     ensures { IfOk result (IsWayWith text.now choice.now.line program.now choice.now.call taken) }
@@ -164,7 +164,7 @@ pub fn hangs_with(
     alloc: Global,
     text: &[u8],
     number: usize,
-    taken: Taken,
+    taken: ChoiceTaken,
     steps: &[Step],
 ) -> Result<bool, AllocError>
     ensures { IfOk result (λ is. IsTrue is → HangsWith text.now number taken) }

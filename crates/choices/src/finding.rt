@@ -9,7 +9,7 @@ ghost use Rattle.choices.specs.Weights.{IsChoiceOf};
 use crate::items::Choice;
 use crate::places::{line_numbers, lines_of};
 use callorder::LongProgram;
-use narrowing::{Taken, is_open_send, other_ways, way_to};
+use narrowing::{ChoiceTaken, is_open_send, other_ways, way_to};
 use semantics::{State, Step};
 use std::alloc::{AllocError, Global};
 
@@ -26,7 +26,7 @@ fn choice_of(
     line: usize,
     call: usize,
     step: usize,
-    taken: Taken,
+    taken: ChoiceTaken,
 ) -> Result<Choice, AllocError>
     requires { LeavesOpen program.now call taken }
     ensures { IfOk result (IsChoiceOf program.now) }
@@ -110,9 +110,9 @@ fn put_send(
         return Ok(());
     };
     let taken = if buffered {
-        Taken::Buffered
+        ChoiceTaken::Buffered
     } else {
-        Taken::NotBuffered
+        ChoiceTaken::NotBuffered
     };
     let choice = choice_of(alloc, program, line, call, step, taken)?;
     found.push(choice)?;
@@ -134,10 +134,10 @@ fn put_message(
     let Some(line) = line_of_call(numbers, finder) else {
         return Ok(());
     };
-    let Some(Taken::Message { source, tag }) = way_to(program, send) else {
+    let Some(ChoiceTaken::Message { source, tag }) = way_to(program, send) else {
         return Ok(());
     };
-    let taken = Taken::Message { source, tag };
+    let taken = ChoiceTaken::Message { source, tag };
     let choice = choice_of(alloc, program, line, finder, step, taken)?;
     if choice.others.is_empty() {
         return Ok(());

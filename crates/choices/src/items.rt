@@ -1,6 +1,6 @@
 //! Choices of a run, and what is known of them.
 
-use narrowing::Taken;
+use narrowing::ChoiceTaken;
 use options::Options;
 
 /// A choice of a run.
@@ -15,16 +15,16 @@ pub struct Choice {
     /// The place of the step that decided it in the run, from 0.
     pub step: usize,
     /// What the run did.
-    pub taken: Taken,
+    pub taken: ChoiceTaken,
     /// All that the call could have done otherwise: of a send the other one of the two ways, of a
     /// call that found a message the rank and the tag of each send of the program that fits it, but
     /// for those that it found.
-    pub others: Vec<Taken>,
+    pub others: Vec<ChoiceTaken>,
 }
 
 /// Whether a program hangs only where a choice is made as in a run.
 #[derive(Clone, Copy, PartialEq, Eq)]
-pub enum Need {
+pub enum ChoiceNeed {
     /// It does: each run of the program that ends stuck makes the choice so, since none does with
     /// the choice made in any other way.
     Known,
@@ -43,12 +43,12 @@ pub struct Weighed {
     /// The choice.
     pub choice: Choice,
     /// Whether it is needed.
-    pub need: Need,
+    pub need: ChoiceNeed,
 }
 
 /// In which walks a program hangs.
 #[derive(Clone, Copy, PartialEq, Eq)]
-pub enum Extent {
+pub enum HangExtent {
     /// In each that was taken.
     Always,
     /// In each that was taken where the choices are made as in the run.
@@ -62,7 +62,7 @@ pub enum Extent {
 #[derive(Drop)]
 pub struct Decided {
     /// In which walks the program hangs.
-    pub extent: Extent,
+    pub extent: HangExtent,
     /// Choices that suffice, in the order of the run. There are some only where it hangs whenever
     /// they are made so.
     pub choices: Vec<Weighed>,
@@ -72,7 +72,7 @@ pub struct Decided {
 
 /// How much is asked.
 #[derive(Clone, Copy)]
-pub struct Limits {
+pub struct AskingLimits {
     /// The most walks that are taken to find choices that suffice, or few more.
     pub walks: u32,
     /// The most other ways that are looked into.

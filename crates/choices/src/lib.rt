@@ -16,9 +16,9 @@ mod telling;
 mod weighing;
 mod wording;
 
-pub use items::{Choice, Decided, Extent, Limits, Need, Weighed};
+pub use items::{Choice, Decided, HangExtent, AskingLimits, ChoiceNeed, Weighed};
 pub use laws::known_is_taken;
-pub use narrowing::Taken;
+pub use narrowing::ChoiceTaken;
 pub use pinning::with_choice;
 pub use telling::told;
 pub use weighing::{decide, decide_run};

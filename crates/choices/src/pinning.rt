@@ -5,7 +5,7 @@ ghost use Rattle.choices.specs.parts.Pins.{AreAround};
 ghost use Rattle.choices.specs.Pins.{IsPinned};
 
 use crate::wording::line_with;
-use narrowing::Taken;
+use narrowing::ChoiceTaken;
 use plaintext::next_line;
 use std::alloc::{AllocError, Global};
 
@@ -37,7 +37,7 @@ pub fn with_choice(
     alloc: Global,
     text: &[u8],
     number: usize,
-    taken: Taken,
+    taken: ChoiceTaken,
 ) -> Result<Option<Vec<u8>>, AllocError>
     ensures { IfOk result (λ found. IfSome found (λ pinned. IsPinned text.now number taken pinned.items)) }
 {

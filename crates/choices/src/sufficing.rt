@@ -1,16 +1,16 @@
 //! Which choices suffice for a program to hang in each walk.
 
-use crate::items::{Choice, Extent};
+use crate::items::{Choice, HangExtent};
 use crate::places::lines_of;
 use crate::wording::line_with;
-use narrowing::Taken;
+use narrowing::ChoiceTaken;
 use prover::{Reason, Until, walk_ends};
 use std::alloc::{AllocError, Global};
 
 /// Choices that suffice, by their places, from 0, and whether each of them was asked about.
 #[derive(Drop)]
 pub struct Sufficient {
-    pub extent: Extent,
+    pub extent: HangExtent,
     pub kept: Vec<usize>,
     pub least: bool,
 }
@@ -45,8 +45,8 @@ enum Part {
 /// Which of its line's choices this one is.
 fn part_of(choice: &Choice) -> Part {
     match choice.taken {
-        Taken::Message { source: _, tag: _ } => Part::Message,
-        Taken::Buffered | Taken::NotBuffered => Part::Mode,
+        ChoiceTaken::Message { source: _, tag: _ } => Part::Message,
+        ChoiceTaken::Buffered | ChoiceTaken::NotBuffered => Part::Mode,
     }
 }
 
@@ -186,14 +186,14 @@ fn least(
     }
     kept.reverse();
     Ok(Sufficient {
-        extent: Extent::Whenever,
+        extent: HangExtent::Whenever,
         kept,
         least: *left > 0,
     })
 }
 
 /// No choices, where it hangs in each walk or no such choices were found.
-fn no_choices(alloc: Global, extent: Extent) -> Sufficient {
+fn no_choices(alloc: Global, extent: HangExtent) -> Sufficient {
     Sufficient {
         extent,
         kept: Vec::new(alloc),
@@ -209,12 +209,12 @@ pub fn choose(
     left: &mut u32,
 ) -> Result<Sufficient, AllocError> {
     if always_hangs(alloc, text, left)? {
-        return Ok(no_choices(alloc, Extent::Always));
+        return Ok(no_choices(alloc, HangExtent::Always));
     }
     let all: Vec<usize> = (0..choices.len()).rev().collect(alloc)?;
     let pinned = text_with(alloc, text, choices, &all)?;
     if !always_hangs(alloc, &pinned, left)? {
-        return Ok(no_choices(alloc, Extent::NotFound));
+        return Ok(no_choices(alloc, HangExtent::NotFound));
     }
     least(alloc, text, choices, all, left)
 }

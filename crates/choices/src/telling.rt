@@ -1,9 +1,9 @@
 //! What decided a run, as a text.
 
-use crate::items::{Choice, Decided, Extent, Need, Weighed};
+use crate::items::{Choice, Decided, HangExtent, ChoiceNeed, Weighed};
 use crate::places::lines_of;
 use crate::wording::is_joined;
-use narrowing::Taken;
+use narrowing::ChoiceTaken;
 use std::alloc::{AllocError, Global};
 
 /// The most choices that are told.
@@ -30,9 +30,9 @@ fn put_taken(out: &mut String, lines: &[&[u8]], choice: &Choice) -> Result<(), A
     let rank = choice.rank;
     write!(out, " of rank {rank}")?;
     match choice.taken {
-        Taken::Buffered => put_mode(out, line, "is buffered"),
-        Taken::NotBuffered => put_mode(out, line, "is not buffered"),
-        Taken::Message { source, tag } => {
+        ChoiceTaken::Buffered => put_mode(out, line, "is buffered"),
+        ChoiceTaken::NotBuffered => put_mode(out, line, "is not buffered"),
+        ChoiceTaken::Message { source, tag } => {
             write!(out, " finds the message of rank {source} with tag {tag}")
         }
     }
@@ -49,12 +49,12 @@ fn put_mode(out: &mut String, line: &[u8], mode: &str) -> Result<(), AllocError>
 }
 
 /// What is told of a choice's other ways.
-fn need_text(need: Need) -> &'static str {
+fn need_text(need: ChoiceNeed) -> &'static str {
     match need {
-        Need::Known => "; without it no run hangs (proved)",
-        Need::Tried => "; no run that hangs without it was found",
-        Need::No => "; may hang otherwise too",
-        Need::NotAsked => "; not asked whether it may hang otherwise",
+        ChoiceNeed::Known => "; without it no run hangs (proved)",
+        ChoiceNeed::Tried => "; no run that hangs without it was found",
+        ChoiceNeed::No => "; may hang otherwise too",
+        ChoiceNeed::NotAsked => "; not asked whether it may hang otherwise",
     }
 }
 
@@ -74,11 +74,11 @@ fn put_choices(out: &mut String, lines: &[&[u8]], choices: &[Weighed]) -> Result
 }
 
 /// What is told above the choices.
-fn extent_text(extent: Extent) -> &'static str {
+fn extent_text(extent: HangExtent) -> &'static str {
     match extent {
-        Extent::Always => "  hangs in every run that was tried\n",
-        Extent::Whenever => "  hangs in every run that was tried where:\n",
-        Extent::NotFound => "  no choices were found that suffice\n",
+        HangExtent::Always => "  hangs in every run that was tried\n",
+        HangExtent::Whenever => "  hangs in every run that was tried where:\n",
+        HangExtent::NotFound => "  no choices were found that suffice\n",
     }
 }
 

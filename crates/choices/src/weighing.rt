@@ -9,11 +9,11 @@ ghost use Rattle.choices.specs.Weights.{AreWeighed, HangsWith, IsChoiceOf, IsWei
 
 use crate::asking::{Way, hangs_with, way_with};
 use crate::finding::choices_of;
-use crate::items::{Choice, Decided, Limits, Need, Weighed};
+use crate::items::{Choice, Decided, AskingLimits, ChoiceNeed, Weighed};
 use crate::sufficing::choose;
 use callorder::LongProgram;
 use checker::{NoRun, Reason, stuck_run_of};
-use narrowing::Taken;
+use narrowing::ChoiceTaken;
 use options::Options;
 use semantics::Step;
 use std::alloc::{AllocError, Global};
@@ -38,7 +38,7 @@ fn is_hanging(way: Way) -> bool
 }
 
 /// Whether there are other ways.
-fn has_some(others: &[Taken]) -> bool
+fn has_some(others: &[ChoiceTaken]) -> bool
     ensures { IsTrue result → others.now ≡ [] → ⊥ }
 {
     !others.is_empty()
@@ -52,28 +52,28 @@ fn others_of<R: Threads + Wait + Sync>(
     program: &LongProgram,
     choice: &Choice,
     search: Option<Options>,
-) -> Result<Need, AllocError>
+) -> Result<ChoiceNeed, AllocError>
     ensures { IfOk result (AreOthers text.now program.now choice.now) }
 {
     let mut known = has_some(&choice.others);
     for other in &choice.others {
         let way = way_with(rt, alloc, text, program, choice, *other, search)?;
         if is_hanging(way) {
-            return Ok(Need::No);
+            return Ok(ChoiceNeed::No);
         }
         known = is_known(known, way);
     }
     if known {
-        return Ok(Need::Known);
+        return Ok(ChoiceNeed::Known);
     }
-    Ok(Need::Tried)
+    Ok(ChoiceNeed::Tried)
 }
 
 /// The steps, with this one as it is of a send in buffered mode, where the choice is that the send
 /// was buffered.
 fn steps_with(alloc: Global, steps: &[Step], choice: &Choice) -> Result<Vec<Step>, AllocError> {
     let mut pinned = Vec::from_slice(alloc, steps)?;
-    if choice.taken == Taken::Buffered && choice.step < pinned.len() {
+    if choice.taken == ChoiceTaken::Buffered && choice.step < pinned.len() {
         pinned[choice.step] = Step::Issue {
             rank: choice.rank,
             buffered: false,
@@ -104,13 +104,13 @@ fn need_of<R: Threads + Wait + Sync>(
     steps: &[Step],
     choice: &Choice,
     search: Option<Options>,
-) -> Result<Need, AllocError>
+) -> Result<ChoiceNeed, AllocError>
     requires program { IsTextOf text.now program.now }
     requires choice { IsChoiceOf program.now choice.now }
     ensures { IfOk result (IsWeighed text.now choice.now) }
 {
     if !hangs_pinned(alloc, text, steps, choice)? {
-        return Ok(Need::NotAsked);
+        return Ok(ChoiceNeed::NotAsked);
     }
     others_of(rt, alloc, text, program, choice, search)
 }
@@ -133,7 +133,7 @@ fn weigh<R: Threads + Wait + Sync>(
     if *left == 0 {
         return Ok(Weighed {
             choice,
-            need: Need::NotAsked,
+            need: ChoiceNeed::NotAsked,
         });
     }
     *left = left.saturating_sub(choice.others.len().min(64) as u32);
@@ -202,7 +202,7 @@ fn weigh_all<R: Threads + Wait + Sync>(
 }
 
 /// How much a search may do that looks into another way: nothing where the program is large.
-fn search_for(program: &LongProgram, limits: Limits) -> Option<Options> {
+fn search_for(program: &LongProgram, limits: AskingLimits) -> Option<Options> {
     if program.calls().len() > MOST_CALLS {
         return None;
     }
@@ -217,7 +217,7 @@ pub fn decide_run<R: Threads + Wait + Sync>(
     text: &[u8],
     program: &LongProgram,
     steps: &[Step],
-    limits: Limits,
+    limits: AskingLimits,
 ) -> Result<Decided, AllocError>
     requires stuck { IsStuckRun program.now steps.now }
     requires program { IsTextOf text.now program.now }
@@ -261,7 +261,7 @@ pub fn decide<R: Threads + Wait + Sync>(
     alloc: Global,
     text: &[u8],
     evidence: &[u8],
-    limits: Limits,
+    limits: AskingLimits,
 ) -> Result<Decided, NoRun>
     ensures decided { IfOk result (λ decided. AreWeighed text.now decided.choices.items) }
     ensures why { IfErr result (IsNoRun text.now evidence.now) }

@@ -4,7 +4,7 @@ ghost use Rattle.std.specs.List.{slice_split};
 ghost use Rattle.std.specs.Prelude.{◌≡◌, ◌++◌, ◌==◌, IfOk, OnOk, codes, map};
 ghost use Rattle.choices.specs.Words.{blank_before, communicator_ending, four_lines, front_letters, is_joined, are_same_bytes, letter_line, line_with, message_line, mode_line, part_ending, source_place, spaced_word, told_word, told_words_from};
 
-use narrowing::Taken;
+use narrowing::ChoiceTaken;
 use plaintext::{put_number, words_of};
 use std::alloc::{AllocError, Global};
 
@@ -181,12 +181,12 @@ fn with_mode(alloc: Global, line: &[u8], letter: u8) -> Result<Vec<u8>, AllocErr
 /// The words in place of a line that leave open no more than what a run did: a send in buffered or
 /// in synchronous mode, that of a `sendrecv` in four lines, its four calls; or a source and a tag
 /// in the place of stars.
-pub fn line_with(alloc: Global, line: &[u8], taken: Taken) -> Result<Vec<u8>, AllocError>
+pub fn line_with(alloc: Global, line: &[u8], taken: ChoiceTaken) -> Result<Vec<u8>, AllocError>
     ensures { IfOk result (λ out. out.items ≡ line_with taken line.now) }
 {
     match taken {
-        Taken::Buffered => with_mode(alloc, line, b'b'),
-        Taken::NotBuffered => with_mode(alloc, line, b's'),
-        Taken::Message { source, tag } => with_message(alloc, line, source, tag),
+        ChoiceTaken::Buffered => with_mode(alloc, line, b'b'),
+        ChoiceTaken::NotBuffered => with_mode(alloc, line, b's'),
+        ChoiceTaken::Message { source, tag } => with_message(alloc, line, source, tag),
     }
 }

@@ -13,7 +13,7 @@ use std::alloc::{AllocError, Global};
 
 /// What has happened where an operation is done.
 #[derive(Clone, Copy)]
-pub struct Found {
+pub struct DoneOperation {
     /// The finder that has found.
     pub finder: Option<usize>,
     /// The receive on its handle, which is issued.
@@ -26,7 +26,7 @@ pub struct Read {
     /// The call before it in its rank.
     pub before: Option<usize>,
     /// What has happened where that one has returned.
-    pub found: Found,
+    pub found: DoneOperation,
 }
 
 /// What a call is matched with, or has seen, by the list.
@@ -77,23 +77,23 @@ fn is_told_by_send(program: &LongProgram, mode: Mode) -> bool
 }
 
 /// Nothing.
-fn nothing() -> Found
+fn nothing() -> DoneOperation
     ensures { result ≡ record { finder = None; receive = None } }
 {
-    Found {
+    DoneOperation {
         finder: None,
         receive: None,
     }
 }
 
 /// What has happened where the send's message is fetched.
-fn fetched(program: &LongProgram, partners: &[Option<usize>], send: usize) -> Found
+fn fetched(program: &LongProgram, partners: &[Option<usize>], send: usize) -> DoneOperation
     ensures { Leads (λ knows f. tells_found (with_partners partners.now) knows result f) (λ knows f.
         tells_fetch program.now (with_partners partners.now) knows send f) }
 {
     match partner(partners, send) {
         None => nothing(),
-        Some(taker) => Found {
+        Some(taker) => DoneOperation {
             finder: Some(taker),
             receive: received_on(program, taker),
         },
@@ -101,7 +101,7 @@ fn fetched(program: &LongProgram, partners: &[Option<usize>], send: usize) -> Fo
 }
 
 /// What has happened where the operation is done.
-fn done(program: &LongProgram, partners: &[Option<usize>], operation: usize) -> Found
+fn done(program: &LongProgram, partners: &[Option<usize>], operation: usize) -> DoneOperation
     ensures { Leads (λ knows f. tells_found (with_partners partners.now) knows result f) (λ knows f.
         tells_done program.now (with_partners partners.now) knows operation f) }
 {
@@ -116,7 +116,7 @@ fn done(program: &LongProgram, partners: &[Option<usize>], operation: usize) -> 
                 nothing()
             }
         }
-        Kind::Receive { .. } | Kind::MatchedProbe { .. } | Kind::Probe { .. } => Found {
+        Kind::Receive { .. } | Kind::MatchedProbe { .. } | Kind::Probe { .. } => DoneOperation {
             finder: Some(operation),
             receive: None,
         },
@@ -125,7 +125,7 @@ fn done(program: &LongProgram, partners: &[Option<usize>], operation: usize) -> 
 }
 
 /// What has happened where the call has returned.
-fn returned(program: &LongProgram, partners: &[Option<usize>], call: usize) -> Found
+fn returned(program: &LongProgram, partners: &[Option<usize>], call: usize) -> DoneOperation
     ensures { Leads (λ knows f. tells_found (with_partners partners.now) knows result f) (λ knows f.
         tells_return_call program.now (with_partners partners.now) knows call (call_at program.now call) f) }
 {

@@ -6,7 +6,7 @@ ghost use Rattle.trees.specs.Trees.{leaf_with, path_at, IsLeaf, split_at};
 ghost use Rattle.cubes.specs.Levels.{paths_from, level_after, full_tree};
 
 use std::alloc::{AllocError, Global};
-use trees::{SplitFault, Tree};
+use trees::{LeafSplitFault, Tree};
 
 /// Splits a leaf of a tree that has room for it.
 fn split_leaf(alloc: Global, tree: &mut Tree, leaf: u32, variable: u32) -> Result<(), AllocError>
@@ -19,8 +19,8 @@ fn split_leaf(alloc: Global, tree: &mut Tree, leaf: u32, variable: u32) -> Resul
 {
     match tree.split_leaf(alloc, leaf, variable) {
         Ok(_numbers) => Ok(()),
-        Err(SplitFault::Memory) => Err(AllocError),
-        Err(SplitFault::TooMany) => unreachable!(),
+        Err(LeafSplitFault::Memory) => Err(AllocError),
+        Err(LeafSplitFault::TooMany) => unreachable!(),
     }
 }
 

@@ -1,7 +1,7 @@
 //! What ranks know of finders of any source as a run goes on, and which calls such finders need in
 //! their phase for it.
 
-use crate::finders::Columns;
+use crate::finders::RankColumns;
 use crate::graph::{Edge, Needs};
 use crate::lists::{at, count_up_to, put};
 use crate::routes::Wildcards;
@@ -25,7 +25,7 @@ struct Route {
 pub struct Known {
     pub partners: Vec<Option<usize>>,
     pub waits: Vec<usize>,
-    pub columns: Columns,
+    pub columns: RankColumns,
     pub wildcards: Wildcards,
 }
 
@@ -57,7 +57,7 @@ fn route_of(source: u32, message: &Message, whole: bool) -> Route {
 fn last_sends(
     alloc: Global,
     program: &LongProgram,
-    columns: &Columns,
+    columns: &RankColumns,
 ) -> Result<HashMap<Route, usize>, AllocError> {
     let mut last = HashMap::new(alloc);
     let calls = program.calls();
@@ -195,7 +195,7 @@ impl Clocks {
     /// Learns at a call that has returned how far the rank of a column is.
     fn learn(
         &mut self,
-        columns: &Columns,
+        columns: &RankColumns,
         call: &Call,
         place: usize,
         number: usize,
@@ -235,7 +235,7 @@ impl Clocks {
     fn hear(
         &mut self,
         alloc: Global,
-        columns: &Columns,
+        columns: &RankColumns,
         call: &Call,
         place: usize,
         other: usize,
@@ -255,7 +255,7 @@ impl Clocks {
     /// of its rank that it fits.
     fn send(
         &self,
-        columns: &Columns,
+        columns: &RankColumns,
         call: &Call,
         place: usize,
         needs: &mut Needs,

@@ -6,7 +6,7 @@ use std::alloc::{AllocError, Global};
 
 /// A finder of any source.
 #[derive(Clone, Copy)]
-pub struct Finder {
+pub struct ColumnFinder {
     pub place: usize,
     communicator: u32,
     tag: Option<u32>,
@@ -16,25 +16,25 @@ pub struct Finder {
 #[derive(Drop)]
 pub struct Column {
     pub rank: u32,
-    pub finders: Vec<Finder>,
+    pub finders: Vec<ColumnFinder>,
     /// For each finder the place behind the call with which it and those before it have returned.
     pub ends: Vec<usize>,
 }
 
 /// The columns, and for each rank the number of its column, or how many there are.
 #[derive(Drop)]
-pub struct Columns {
+pub struct RankColumns {
     pub columns: Vec<Column>,
     of_ranks: Vec<usize>,
 }
 
 /// A finder of any source.
-fn finder_of(call: &Call, place: usize) -> Option<Finder> {
+fn finder_of(call: &Call, place: usize) -> Option<ColumnFinder> {
     let pattern = call.kind.pattern()?;
     if pattern.source.is_some() {
         return None;
     }
-    Some(Finder {
+    Some(ColumnFinder {
         place,
         communicator: pattern.communicator,
         tag: pattern.tag,
@@ -58,7 +58,7 @@ pub fn waits_of(alloc: Global, program: &LongProgram) -> Result<Vec<usize>, Allo
 
 impl Column {
     /// Adds a finder that has returned behind this place.
-    fn add(&mut self, finder: Finder, end: usize) -> Result<(), AllocError> {
+    fn add(&mut self, finder: ColumnFinder, end: usize) -> Result<(), AllocError> {
         let most = self.ends.last().copied().unwrap_or(0).max(end);
         self.finders.push(finder)?;
         self.ends.push(most)?;
@@ -78,14 +78,14 @@ impl Column {
     }
 }
 
-impl Columns {
+impl RankColumns {
     pub fn of(
         alloc: Global,
         program: &LongProgram,
         waits: &[usize],
-    ) -> Result<Columns, AllocError> {
+    ) -> Result<RankColumns, AllocError> {
         let ranks = program.ranks() as usize;
-        let mut columns = Columns {
+        let mut columns = RankColumns {
             columns: Vec::new(alloc),
             of_ranks: vec![in alloc; ranks; ranks]?,
         };
@@ -103,7 +103,7 @@ impl Columns {
         &mut self,
         alloc: Global,
         rank: u32,
-        finder: Finder,
+        finder: ColumnFinder,
         end: usize,
     ) -> Result<(), AllocError> {
         if self.number(rank) >= self.columns.len() {

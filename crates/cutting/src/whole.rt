@@ -3,7 +3,7 @@ ghost use Rattle.std.specs.Prelude.{IfOk, length};
 ghost use Rattle.cutting.specs.Orders.{IsOrder};
 
 use crate::clocks::{Known, seal_all};
-use crate::finders::{Columns, waits_of};
+use crate::finders::{RankColumns, waits_of};
 use crate::graph::{Edge, Graph, Needs};
 use crate::keys::{codes_of, numbers_of, part};
 use crate::knots::{Tie, knots_of};
@@ -34,7 +34,7 @@ fn needs_of(
 ) -> Result<(Needs, Vec<Option<usize>>), AllocError> {
     let (run, _state) = least_buffered_run(alloc, program)?;
     let waits = waits_of(alloc, program)?;
-    let columns = Columns::of(alloc, program, &waits)?;
+    let columns = RankColumns::of(alloc, program, &waits)?;
     let known = Known {
         partners: partners_of(alloc, program, &run)?,
         waits,

@@ -11,13 +11,13 @@ use Rattle.semantics.specs.Machine.{IsStuckRun}
 use Rattle.races.specs.Races.{names_source, NamesSources}
 use Rattle.deciding.specs.Decisions.{takes_any_source_call, IsRace}
 use Rattle.deciding.specs.Laws.{JustifiedRunsAreDecided, LoneSendersAreDecided, NamedSourcesAreDecided, ShortTextsAreDecided}
-use Rattle.deciding.specs.declared.decision.Race.{Race}
+use Rattle.deciding.specs.declared.decision.CallerRace.{CallerRace}
 
 not_both : (b : Bool) → b ≡ true → not b ≡ true → ⊥
 not_both true named free = cc
 not_both false named free = cc
 
-no_free : (p : MpiProgram) (race : Race) → NamesSources p → IsRace p race → ⊥
+no_free : (p : MpiProgram) (race : CallerRace) → NamesSources p → IsRace p race → ⊥
 no_free p race named is = go (call_at p race.finder.place) refl is.free
   where
     go : (found : Option Call) → call_at p race.finder.place ≡ found → takes_any_source_call found ≡ true → ⊥

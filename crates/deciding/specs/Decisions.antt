@@ -20,7 +20,7 @@ use Rattle.races.specs.Races.{names_source, BuffersNoneByChoice}
 use Rattle.races.specs.Tells.{Table, IsJustified}
 use Rattle.deciding.specs.declared.decision.Caller.{Caller}
 use Rattle.deciding.specs.declared.decision.Decision.{Decision}
-use Rattle.deciding.specs.declared.decision.Race.{Race}
+use Rattle.deciding.specs.declared.decision.CallerRace.{CallerRace}
 use Rattle.deciding.specs.declared.decision.Decision.TheVariants as decisions
 use Rattle.deciding.specs.declared.texts.Undecided.{Undecided}
 use Rattle.deciding.specs.declared.texts.Undecided.TheVariants as undecided
@@ -45,7 +45,7 @@ EndsLeast p e = (run : List Step) × IsFinishedRun p run × BuffersNoneByChoice 
 -- In some run that finishes, and buffers a send only where the policy has each one buffered, the
 -- call found the one send, no call up to it has taken the other one, and no table whose entries are
 -- all justified tells that the other one is issued only where the call has found.
-pub record IsOpenRace (p : MpiProgram) (race : Race) : Type 0 where
+pub record IsOpenRace (p : MpiProgram) (race : CallerRace) : Type 0 where
   pub run : List Step
   pub finished : IsFinishedRun p run
   pub choice : BuffersNoneByChoice p run
@@ -55,7 +55,7 @@ pub record IsOpenRace (p : MpiProgram) (race : Race) : Type 0 where
 
 -- A call that takes any source, the send that it found, and a send of another rank that fits it
 -- too, and may come first.
-pub record IsRace (p : MpiProgram) (race : Race) : Type 0 where
+pub record IsRace (p : MpiProgram) (race : CallerRace) : Type 0 where
   pub free : IsTrue (takes_any_source p race.finder.place)
   pub finder : IsCaller p race.finder
   pub found : IsCaller p race.found
@@ -73,7 +73,7 @@ IsDecision p (decisions.Deadlock steps) = IsStuckRun p steps.items
 IsDecision p (decisions.Race race) = IsRace p race
 
 -- The bytes are the text of a program, within the long limits, that has these calls.
-pub record HasRace (program : List ℕ) (race : Race) : Type 0 where
+pub record HasRace (program : List ℕ) (race : CallerRace) : Type 0 where
   pub p : MpiProgram
   pub text : IsTextOfWithin long program p
   pub calls : IsRace p race

@@ -11,13 +11,13 @@ use Rattle.races.specs.Races.{BuffersNoneByChoice, NamesSources}
 use Rattle.races.specs.Tells.{Table, IsJustified, ShowsNoRace}
 use Rattle.deciding.specs.Decisions.{Decides}
 use Rattle.deciding.specs.declared.decision.Decision.TheVariants as decisions
-use Rattle.deciding.specs.declared.decision.Race.{Race}
+use Rattle.deciding.specs.declared.decision.CallerRace.{CallerRace}
 
 -- where each receive, matched probe and probe of the program names its source, it is never a race
 -- that is decided
 abbrev pub NamedSourcesAreDecided : Type 0
 NamedSourcesAreDecided =
-    (program : List ℕ) (race : Race) (p : MpiProgram) → Decides program (decisions.Race race) → IsTextOfWithin long program p → NamesSources p → ⊥
+    (program : List ℕ) (race : CallerRace) (p : MpiProgram) → Decides program (decisions.Race race) → IsTextOfWithin long program p → NamesSources p → ⊥
 
 -- any two sends that fit one receive, matched probe or probe are of one rank
 abbrev pub HasLoneSenders : MpiProgram → Type 0
@@ -27,7 +27,7 @@ HasLoneSenders p = (finder one other : ℕ) → IsTrue (are_fit p one finder) �
 -- is never a race that is decided
 abbrev pub LoneSendersAreDecided : Type 0
 LoneSendersAreDecided =
-    (program : List ℕ) (race : Race) (p : MpiProgram) → Decides program (decisions.Race race) → IsTextOfWithin long program p → HasLoneSenders p → ⊥
+    (program : List ℕ) (race : CallerRace) (p : MpiProgram) → Decides program (decisions.Race race) → IsTextOfWithin long program p → HasLoneSenders p → ⊥
 
 -- a table whose entries are all justified shows that no send races for a finder of this
 -- configuration
@@ -40,7 +40,7 @@ pub record HasTable (p : MpiProgram) (e : Configuration) : Type 0 where
 -- the policy has each one buffered, it is never a race that is decided
 abbrev pub JustifiedRunsAreDecided : Type 0
 JustifiedRunsAreDecided =
-    (program : List ℕ) (race : Race) (p : MpiProgram) → Decides program (decisions.Race race) → IsTextOfWithin long program p
+    (program : List ℕ) (race : CallerRace) (p : MpiProgram) → Decides program (decisions.Race race) → IsTextOfWithin long program p
     → ((run : List Step) → IsFinishedRun p run → BuffersNoneByChoice p run → HasTable p (after_all (opening p) run)) → ⊥
 
 -- what is decided of a text within the short limits is true of the program that it is within these

@@ -6,7 +6,7 @@ use waits::{Standing, operation_of};
 
 /// Ranks that wait alike, in rising order.
 #[derive(Drop)]
-pub struct Group {
+pub struct AlikeRanks {
     /// The first of them.
     pub first: u32,
     /// All of them.
@@ -41,7 +41,7 @@ fn are_alike(scene: &Scene<'_>, one: u32, other: u32) -> bool {
 }
 
 /// The group of ranks that wait as this one does.
-fn group_of(scene: &Scene<'_>, groups: &[Group], rank: u32) -> Option<usize> {
+fn group_of(scene: &Scene<'_>, groups: &[AlikeRanks], rank: u32) -> Option<usize> {
     groups
         .iter()
         .position(|group| are_alike(scene, group.first, rank))
@@ -51,7 +51,7 @@ fn group_of(scene: &Scene<'_>, groups: &[Group], rank: u32) -> Option<usize> {
 fn join(
     alloc: Global,
     scene: &Scene<'_>,
-    groups: &mut Vec<Group>,
+    groups: &mut Vec<AlikeRanks>,
     rank: u32,
 ) -> Result<(), AllocError> {
     if let Some(place) = group_of(scene, groups, rank)
@@ -62,15 +62,15 @@ fn join(
     }
     let mut ranks = Vec::new(alloc);
     ranks.push(rank)?;
-    groups.push(Group { first: rank, ranks })?;
+    groups.push(AlikeRanks { first: rank, ranks })?;
     Ok(())
 }
 
 /// The ranks that aren't finished, of those that wait for nobody, or of the others; those that wait
 /// alike in one group, in the order of their first ranks. There are few groups, as calls have few
 /// verbs.
-pub fn groups_of(alloc: Global, scene: &Scene<'_>, lack: bool) -> Result<Vec<Group>, AllocError> {
-    let mut groups: Vec<Group> = Vec::new(alloc);
+pub fn groups_of(alloc: Global, scene: &Scene<'_>, lack: bool) -> Result<Vec<AlikeRanks>, AllocError> {
+    let mut groups: Vec<AlikeRanks> = Vec::new(alloc);
     for rank in 0..scene.program.ranks() {
         if scene.standing(rank) == Standing::Finished || scene.lacks(rank) != lack {
             continue;

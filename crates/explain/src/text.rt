@@ -5,14 +5,14 @@ ghost use Rattle.semantics.specs.Machine.{IsStuckRun};
 ghost use Rattle.frequency.specs.Frequencies.{IsFrequency};
 ghost use Rattle.explain.specs.Often.{BeginsWithBytes, often_line};
 
-use crate::alike::{Group, groups_of};
+use crate::alike::{AlikeRanks, groups_of};
 use crate::balancing::{Calls, put_balance};
 use crate::needing::put_need;
 use crate::wording::{put_call_of, put_line, put_number_of, put_numbers};
 use callorder::LongProgram;
 use calltext::LongSource;
 use frequency::Frequency;
-use scene::{Choice, MOST_OF_LARGE, Parting, Scene, choices_of, needed, parting_of, scene_of};
+use scene::{RunChoice, MOST_OF_LARGE, Parting, Scene, choices_of, needed, parting_of, scene_of};
 use semantics::Step;
 use std::alloc::{AllocError, Global};
 use waits::{Standing, fitting, operation_of};
@@ -159,14 +159,14 @@ fn put_finding(
 }
 
 /// Tells a choice.
-fn put_choice(out: &mut String, scene: &Scene<'_>, choice: &Choice) -> Result<(), AllocError> {
+fn put_choice(out: &mut String, scene: &Scene<'_>, choice: &RunChoice) -> Result<(), AllocError> {
     match choice {
-        Choice::Buffered { send, .. } => {
+        RunChoice::Buffered { send, .. } => {
             out.push_str("  ")?;
             put_call_of(out, scene, *send)?;
             out.push_str(" was buffered\n")
         }
-        Choice::Found {
+        RunChoice::Found {
             send,
             finder,
             rivals,
@@ -183,7 +183,7 @@ fn put_choice(out: &mut String, scene: &Scene<'_>, choice: &Choice) -> Result<()
 fn choices_text(
     alloc: Global,
     scene: &Scene<'_>,
-    choices: &[Choice],
+    choices: &[RunChoice],
 ) -> Result<String, AllocError> {
     let mut out = String::new(alloc);
     let most = scene.most_of_large();
@@ -297,7 +297,7 @@ fn put_group(
     out: &mut String,
     alloc: Global,
     scene: &Scene<'_>,
-    group: &Group,
+    group: &AlikeRanks,
 ) -> Result<(), AllocError> {
     let count = group.ranks.len();
     if count > scene.most(MOST_ALIKE) {
@@ -490,7 +490,7 @@ fn put_cause(
     scene: &Scene<'_>,
     lacks: &String,
     decided: &str,
-    choices: &[Choice],
+    choices: &[RunChoice],
 ) -> Result<(), AllocError> {
     put_part(out, BALANCE, &balance(alloc, scene, true)?)?;
     put_cycle(out, scene)?;
@@ -532,7 +532,7 @@ fn put_all(
     alloc: Global,
     scene: &Scene<'_>,
     decided: &str,
-    choices: &[Choice],
+    choices: &[RunChoice],
 ) -> Result<(), AllocError> {
     let lacks = standings(alloc, scene, true)?;
     put_cause(out, alloc, scene, &lacks, decided, choices)?;

@@ -6,7 +6,7 @@ ghost use Rattle.frequency.specs.Frequencies.{IsFrequency};
 use callorder::LongProgram;
 use calltext::LongSource;
 use frequency::Frequency;
-use scene::{CallLabel, Choice, Parting, Scene, choices_of, part_word, parting_of, scene_of};
+use scene::{CallLabel, RunChoice, Parting, Scene, choices_of, part_word, parting_of, scene_of};
 use semantics::Step;
 use serde::Serialize;
 use serde_json::to_string;
@@ -240,16 +240,16 @@ fn numbers_of(alloc: Global, places: &[usize]) -> Result<Vec<usize>, AllocError>
 }
 
 /// A choice of a run.
-fn decision_of(alloc: Global, scene: &Scene<'_>, choice: &Choice) -> Result<Decision, AllocError> {
+fn decision_of(alloc: Global, scene: &Scene<'_>, choice: &RunChoice) -> Result<Decision, AllocError> {
     match choice {
-        Choice::Buffered { step, send } => Ok(Decision {
+        RunChoice::Buffered { step, send } => Ok(Decision {
             step: number_of(*step),
             kind: "buffered",
             call: number_of(*send),
             of: None,
             others: Vec::new(alloc),
         }),
-        Choice::Found {
+        RunChoice::Found {
             step,
             send,
             finder,
@@ -272,7 +272,7 @@ fn decision_of(alloc: Global, scene: &Scene<'_>, choice: &Choice) -> Result<Deci
 fn decisions_of(
     alloc: Global,
     scene: &Scene<'_>,
-    choices: &[Choice],
+    choices: &[RunChoice],
 ) -> Result<Vec<Decision>, AllocError> {
     let mut decisions = Vec::new(alloc);
     for choice in choices {

@@ -5,8 +5,8 @@ use Rattle.std.specs.List.{flat_map}
 use Rattle.callorder.specs.Programs.{MpiProgram, is_probe}
 use Rattle.plaintext.specs.Plain.{numeral, line_of}
 use Rattle.clauses.specs.Clauses.{Literal, Conjunction}
-use Rattle.formula.specs.declared.facts.Event.{Event}
-use Rattle.formula.specs.declared.facts.Event.TheVariants.{Issue as issue_of, Match as match_of}
+use Rattle.formula.specs.declared.facts.RunEvent.{RunEvent}
+use Rattle.formula.specs.declared.facts.RunEvent.TheVariants.{Issue as issue_of, Match as match_of}
 use Rattle.formula.specs.declared.facts.Fact.{Fact}
 use Rattle.formula.specs.declared.facts.Fact.TheVariants.{Issued as issued, Buffered as buffered, Matched as matched, Unfinished as unfinished}
 use Rattle.formula.specs.declared.facts.Meaning.{Meaning}
@@ -17,7 +17,7 @@ use Rattle.prooflog.specs.Refutations.{literal_word}
 use Rattle.prooflog.specs.Reading.{find_word}
 
 -- An event's words are `issue C`, `match T` with the taker, or `see P` with the probe.
-abbrev pub event_words : MpiProgram → Event → List (List ℕ)
+abbrev pub event_words : MpiProgram → RunEvent → List (List ℕ)
 event_words p (issue_of c) = codes "issue" ∷ numeral (c + 1) ∷ []
 event_words p (match_of f) = find_word (is_probe p f) ∷ numeral (f + 1) ∷ []
 

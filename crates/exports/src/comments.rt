@@ -4,7 +4,7 @@ ghost use Rattle.std.specs.Prelude.{◌≡◌, ◌+◌, ◌++◌, ◌∷◌, [],
 ghost use Rattle.callorder.specs.Programs.{is_probe};
 ghost use Rattle.plaintext.specs.TextLines.{spaced};
 ghost use Rattle.plaintext.specs.Plain.{numeral};
-ghost use Rattle.formula.specs.declared.facts.Event.TheVariants.{Issue as issue_of};
+ghost use Rattle.formula.specs.declared.facts.RunEvent.TheVariants.{Issue as issue_of};
 ghost use Rattle.formula.specs.Families.{events as events_of};
 ghost use Rattle.formula.specs.Numbering.{meanings};
 ghost use Rattle.exports.specs.Dimacs.{event_words, found_word, fact_words, meaning_words, comment_line, comment_lines};
@@ -13,7 +13,7 @@ use crate::events::event_at;
 use crate::words::{put_number, put_word};
 use callorder::Program;
 use encode::Encoded;
-use formula::{Event, Fact, Meaning};
+use formula::{RunEvent, Fact, Meaning};
 use prooflog::find_word;
 use std::alloc::AllocError;
 
@@ -25,15 +25,15 @@ fn put_call(out: &mut Vec<u8>, call: usize) -> Result<(), AllocError>
 }
 
 /// Writes the words of the event.
-fn put_event(out: &mut Vec<u8>, program: &Program, event: &Event) -> Result<(), AllocError>
+fn put_event(out: &mut Vec<u8>, program: &Program, event: &RunEvent) -> Result<(), AllocError>
     ensures { OnOk result (out.new.items ≡ out.old.items ++ spaced (event_words program.now event.now)) }
 {
     match *event {
-        Event::Issue(call) => {
+        RunEvent::Issue(call) => {
             put_word(out, "issue")?;
             put_call(out, call)
         }
-        Event::Match(finder) => {
+        RunEvent::Match(finder) => {
             put_word(out, find_word(program.is_probe(finder)))?;
             put_call(out, finder)
         }
@@ -91,7 +91,7 @@ fn put_fact(out: &mut Vec<u8>, program: &Program, fact: &Fact) -> Result<(), All
 fn put_bit(
     out: &mut Vec<u8>,
     program: &Program,
-    event: &Event,
+    event: &RunEvent,
     place: usize,
 ) -> Result<(), AllocError>
     ensures { OnOk result (out.new.items ≡ out.old.items ++ spaced (codes "bit" ∷ numeral (place + 1) ∷ codes
@@ -107,9 +107,9 @@ fn put_bit(
 fn put_events(
     out: &mut Vec<u8>,
     program: &Program,
-    first: &Event,
+    first: &RunEvent,
     word: &str,
-    second: &Event,
+    second: &RunEvent,
 ) -> Result<(), AllocError>
     ensures { OnOk result (out.new.items ≡
         out.old.items ++ spaced (event_words program.now first.now ++ word.now ∷ event_words program.now
@@ -124,8 +124,8 @@ fn put_events(
 fn put_equal_bits(
     out: &mut Vec<u8>,
     program: &Program,
-    first: &Event,
-    second: &Event,
+    first: &RunEvent,
+    second: &RunEvent,
     bits: usize,
 ) -> Result<(), AllocError>
     ensures { OnOk result (out.new.items ≡ out.old.items ++ spaced (numeral bits ∷ codes "equal" ∷ codes
@@ -144,7 +144,7 @@ fn put_equal_bits(
 fn put_meaning(
     out: &mut Vec<u8>,
     program: &Program,
-    events: &[Event],
+    events: &[RunEvent],
     meaning: &Meaning,
 ) -> Result<(), AllocError>
     requires { events.now ≡ events_of program.now }
@@ -170,7 +170,7 @@ fn put_meaning(
 fn put_comment(
     out: &mut Vec<u8>,
     program: &Program,
-    events: &[Event],
+    events: &[RunEvent],
     variable: u32,
     meaning: &Meaning,
 ) -> Result<(), AllocError>
@@ -188,7 +188,7 @@ fn put_comment(
 pub fn put_comments(
     out: &mut Vec<u8>,
     encoded: &Encoded,
-    events: &[Event],
+    events: &[RunEvent],
 ) -> Result<(), AllocError>
     requires { events.now ≡ events_of encoded.now.program }
     ensures { OnOk result (out.new.items ≡ out.old.items ++ comment_lines encoded.now.program 1 (meanings encoded.now.program)) }

@@ -8,7 +8,7 @@ use Rattle.calltext.specs.declared.call.Policy.TheVariants.{Any, Never, Always}
 use Rattle.callorder.specs.Programs.{MpiProgram, are_of_one_rank, are_fit, takes}
 use Rattle.candidates.specs.Pairs.{places, takers_of}
 use Rattle.nonovertake.specs.Earlier.{earlier_sends, earlier_takers}
-use Rattle.formula.specs.declared.facts.Event.TheVariants.{Issue as issue_of, Match as match_of}
+use Rattle.formula.specs.declared.facts.RunEvent.TheVariants.{Issue as issue_of, Match as match_of}
 use Rattle.formula.specs.declared.facts.Fact.TheVariants.{Issued as issued, Buffered as buffered, Matched as matched}
 use Rattle.formula.specs.declared.facts.Statement.TheVariants.{Holds as is_true, Fails as is_false, Earlier as is_earlier}
 use Rattle.formula.specs.declared.facts.Condition.{Condition}

@@ -9,7 +9,7 @@ use Rattle.std.proofs.lemmas.List.Sums.{passes_at_first}
 use Rattle.callorder.specs.ProgramRules.{IsProgram}
 use Rattle.callorder.specs.Programs.{MpiProgram}
 use Rattle.clauses.specs.Clauses.{TruthAssignment}
-use Rattle.formula.specs.Facts.{Event, issue_of, match_of, Fact, Meaning, fact, clock_bit, before, same_bits, Statement, is_true, is_false, is_earlier, is_same_event}
+use Rattle.formula.specs.Facts.{RunEvent, issue_of, match_of, Fact, Meaning, fact, clock_bit, before, same_bits, Statement, is_true, is_false, is_earlier, is_same_event}
 use Rattle.formula.specs.Families.{SymbolicClause, events, event_at, place_of_event, families_with_orders, last_families, families, said, first_families, sends_are_buffered_as_allowed, probes_see_messages}
 use Rattle.formula.specs.Orders.{clock_size, used_pairs, clock_meanings, pair_meanings, order_meanings}
 use Rattle.formula.specs.Numbering.{facts, meanings, is_same_meaning, variable_of, literal}
@@ -119,13 +119,13 @@ in_families p Q is f =
 
 -- ---- events of statements
 
-same_event : (e f : Event) → is_same_event e f ≡ true → e ≡ f
+same_event : (e f : RunEvent) → is_same_event e f ≡ true → e ≡ f
 same_event (issue_of c) (issue_of d) h = ap issue_of (equal_places c d h)
 same_event (match_of c) (match_of d) h = ap match_of (equal_places c d h)
 same_event (issue_of c) (match_of d) h = absurd cc
 same_event (match_of c) (issue_of d) h = absurd cc
 
-event_listed : (p : MpiProgram) (e : Event) → IsEvent p e → event_at p (place_of_event p e) ≡ e
+event_listed : (p : MpiProgram) (e : RunEvent) → IsEvent p e → event_at p (place_of_event p e) ≡ e
 event_listed p e h =
     sym (same_event e (event_at p (place_of_event p e)) (passes_at_first (is_same_event e) (events p) (issue_of 0) (position_within (is_same_event e) (events p) h)))
 

@@ -8,7 +8,7 @@ use Rattle.std.proofs.lemmas.List.Sums.{position_or_len_is}
 use Rattle.std.specs.List.{filter, range_with_len}
 use Rattle.callorder.specs.Programs.{MpiProgram}
 use Rattle.candidates.specs.Pairs.{places}
-use Rattle.formula.specs.Facts.{Event, issue_of, match_of, is_same_event}
+use Rattle.formula.specs.Facts.{RunEvent, issue_of, match_of, is_same_event}
 use Rattle.formula.specs.Families.{events, event_at, finds_message}
 use Rattle.formula.specs.Laws.{EventsStandOnce}
 
@@ -53,7 +53,7 @@ match_at p k from below =
     get_or-append_right (map issue_of (places p)) (map match_of (filter (finds_message p) (places p))) (length p.calls) k (issue_of 0) (issues_size p) from ∙
     get_or-map match_of (filter (finds_message p) (places p)) (k - length p.calls) 0 (issue_of 0) (omega (arith, events_size p, from, below))
 
-same_as_itself : (e : Event) → is_same_event e e ≡ true
+same_as_itself : (e : RunEvent) → is_same_event e e ≡ true
 same_as_itself (issue_of c) = grind (arith, nat_tests)
 same_as_itself (match_of c) = grind (arith, nat_tests)
 

@@ -19,7 +19,7 @@ use Rattle.callorder.specs.ProgramRules.{IsProgram}
 use Rattle.callorder.specs.Programs.{is_probe, takes, sees, MpiProgram, call_at, are_of_one_rank, are_fit}
 use Rattle.candidates.specs.Pairs.{places, takers_of, probes_of, matching_pairs, seeing_pairs}
 use Rattle.nonovertake.specs.Earlier.{earlier_sends, earlier_takers}
-use Rattle.formula.specs.Facts.{Event, issue_of, match_of, Fact, issued, buffered, matched, unfinished, Meaning, fact, Statement, is_true, is_false, is_earlier, is_same_event}
+use Rattle.formula.specs.Facts.{RunEvent, issue_of, match_of, Fact, issued, buffered, matched, unfinished, Meaning, fact, Statement, is_true, is_false, is_earlier, is_same_event}
 use Rattle.formula.specs.Families.{without_later_sends, seen_before_taken, see_clauses, families_with_orders, sends_of, call_finds_message, finds_message, is_standard_kind, is_standard_call, is_standard, standard_sends, receive_of_call, receive_on_handle, previous_of_rank, last_calls, rank_of, events, event_of_fetch, fetch_of, Condition, at_once, if_matched, if_fetched, if_buffered_or_fetched, when_done_kind, when_done_call, when_done, if_blocking, when_returned_kind, when_returned_call, when_returned, SymbolicClause, unless_issued, where_fetched, where_returned_under, where_returned, issued_after, handle_is_received_on, is_fetched_before, is_returned_before, issued_after_return_of, issued_before_match, without_later_pairs, send_is_matched_before, taker_is_matched_before, pair_does_not_wait, issue_does_not_wait, buffered_under, said, first_families, family_of, probes_see_messages, calls_are_issued_in_order, calls_are_issued_after_returns, matches_come_after_issues, calls_are_matched_once, sends_do_not_overtake, takers_do_not_overtake, no_pair_waits, no_issue_waits, some_rank_is_unfinished, sends_are_buffered_as_allowed}
 use Rattle.formula.specs.Orders.{order_meanings}
 use Rattle.formula.specs.Numbering.{facts, meanings, is_same_fact, is_same_meaning}
@@ -30,7 +30,7 @@ use Rattle.formula.proofs.Elements.{each_mono, and_both, Each, each_append, each
 abbrev pub IsVariable : MpiProgram → Meaning → Type 0
 IsVariable p m = list_any (is_same_meaning m) (meanings p) ≡ true
 
-abbrev pub IsEvent : MpiProgram → Event → Type 0
+abbrev pub IsEvent : MpiProgram → RunEvent → Type 0
 IsEvent p e = list_any (is_same_event e) (events p) ≡ true
 
 abbrev pub Named : MpiProgram → Statement → Type 0
@@ -149,19 +149,19 @@ unfinished_named p c below is_last =
 
 issue_named : (p : MpiProgram) (c : ℕ) → c < length p.calls → IsEvent p (issue_of c)
 issue_named p c below =
-    let test : Event → Bool = is_same_event (issue_of c) in
+    let test : RunEvent → Bool = is_same_event (issue_of c) in
     any_append_left test (map issue_of (places p)) _
     (any_map test issue_of (places p) ∙ any_place p (λ d. c == d) c below (equal_self c))
 
 match_named : (p : MpiProgram) (t : ℕ) → t < length p.calls → finds_message p t ≡ true → IsEvent p (match_of t)
 match_named p t below taker =
-    let test : Event → Bool = is_same_event (match_of t) in
+    let test : RunEvent → Bool = is_same_event (match_of t) in
     any_append_right test (map issue_of (places p)) _
     (any_map test match_of (filter (finds_message p) (places p)) ∙
     (any_filter (λ d. t == d) (finds_message p) (places p) ∙
     any_place p (λ d. finds_message p d && t == d) t below (and_both (finds_message p t) (t == t) taker (equal_self t))))
 
-event_is_itself : (e : Event) → is_same_event e e ≡ true
+event_is_itself : (e : RunEvent) → is_same_event e e ≡ true
 event_is_itself (issue_of c) = equal_self c
 event_is_itself (match_of t) = equal_self t
 

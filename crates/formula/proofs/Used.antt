@@ -3,7 +3,7 @@ use Rattle.std.proofs.Common.{◌≡◌, ℕ, zero, suc, ◌+◌, ◌-◌, ◌<�
 use Rattle.std.specs.List.{flat_map, range_with_len, list_any}
 use Rattle.std.proofs.lemmas.Bool.{ltb-true}
 use Rattle.callorder.specs.Programs.{MpiProgram}
-use Rattle.formula.specs.Facts.{Event, Meaning, fact, clock_bit, before, same_bits, Statement, is_true, is_false, is_earlier, is_same_event}
+use Rattle.formula.specs.Facts.{RunEvent, Meaning, fact, clock_bit, before, same_bits, Statement, is_true, is_false, is_earlier, is_same_event}
 use Rattle.formula.specs.Families.{SymbolicClause, events, place_of_event, families_with_orders}
 use Rattle.formula.specs.Orders.{clock_size, between, event_pairs, places_in, stated_orders, are_of_same_events, is_among, used_pairs, clock_meanings, pair_meanings, order_meanings, SignedMeaning, so, not_so, differ_before, same_up_to, bits_agree, bit_decides, pair_clauses, order_clauses}
 use Rattle.formula.specs.Numbering.{facts, is_same_meaning}
@@ -72,14 +72,14 @@ orders_stated p =
     each_mono (FoundIn p (flat_map (flat_map (places_in p))) (stated_orders p)) (Clauses (IsStated p)) (clauses_stated p) (families_with_orders p)
     (each_found (flat_map (flat_map (places_in p))) (families_with_orders p))
 
-pub used_where_first : (p : MpiProgram) (e f : Event) → IsEvent p f → IsStated p (is_earlier e f) → place_of_event p e < place_of_event p f → IsUsed p (place_of_event p e) (place_of_event p f)
+pub used_where_first : (p : MpiProgram) (e f : RunEvent) → IsEvent p f → IsStated p (is_earlier e f) → place_of_event p e < place_of_event p f → IsUsed p (place_of_event p e) (place_of_event p f)
 used_where_first p e f event stated first =
     let a = place_of_event p e in
     let b = place_of_event p f in
     used_from p a b first (position_within (is_same_event f) (events p) event)
     (stated (are_of_same_events (a, b)) (or_left (a == a && b == b) _ (and_both (a == a) (b == b) (equal_self a) (equal_self b))))
 
-pub used_where_second : (p : MpiProgram) (e f : Event) → IsEvent p e → IsStated p (is_earlier e f) → place_of_event p f < place_of_event p e → IsUsed p (place_of_event p f) (place_of_event p e)
+pub used_where_second : (p : MpiProgram) (e f : RunEvent) → IsEvent p e → IsStated p (is_earlier e f) → place_of_event p f < place_of_event p e → IsUsed p (place_of_event p f) (place_of_event p e)
 used_where_second p e f event stated first =
     let a = place_of_event p e in
     let b = place_of_event p f in

@@ -17,7 +17,7 @@ pub use Rattle.formula.specs.declared.facts.Condition.{Condition}
 pub use Rattle.formula.specs.declared.facts.Condition.TheVariants.{AtOnce as at_once, IfMatched as if_matched, IfFetched as if_fetched, IfBufferedOrFetched as if_buffered_or_fetched}
 pub use Rattle.formula.specs.declared.families.Family.{Family}
 pub use Rattle.formula.specs.declared.families.Family.TheVariants.{IssueOrder, ReturnOrder, MatchOrder, MatchedOnce, SendOrder, TakerOrder, NoPairWaits, NoIssueWaits, SomeUnfinished, Buffering, Sees}
-use Rattle.formula.specs.Facts.{Event, issue_of, match_of, issued, buffered, matched, unfinished, Statement, is_true, is_false, is_earlier, is_same_event}
+use Rattle.formula.specs.Facts.{RunEvent, issue_of, match_of, issued, buffered, matched, unfinished, Statement, is_true, is_false, is_earlier, is_same_event}
 
 -- ---- calls
 
@@ -83,25 +83,25 @@ rank_of p c = rank_of_call (call_at p c)
 -- ---- events
 
 -- the events that a run may have: the issue of each call, and then the match of each taker
-abbrev pub events : MpiProgram → List Event
+abbrev pub events : MpiProgram → List RunEvent
 events p = map issue_of (places p) ++ map match_of (filter (finds_message p) (places p))
 
 -- the event at a place of the list
-abbrev pub event_at : MpiProgram → ℕ → Event
+abbrev pub event_at : MpiProgram → ℕ → RunEvent
 event_at p place = get_or (events p) place (issue_of 0)
 
 -- the place of an event in the list
-abbrev pub place_of_event : MpiProgram → Event → ℕ
+abbrev pub place_of_event : MpiProgram → RunEvent → ℕ
 place_of_event p e = position_or_len (is_same_event e) (events p)
 
 -- the event by which a taker with this receive on its handle, or with none, fetches its message
-abbrev pub event_of_fetch : Option ℕ → ℕ → Event
+abbrev pub event_of_fetch : Option ℕ → ℕ → RunEvent
 event_of_fetch None taker = match_of taker
 event_of_fetch (Some receive) taker = issue_of receive
 
 -- the event by which a taker fetches its message: its match, and for a matched probe the issue of
 -- the receive on its handle
-abbrev pub fetch_of : MpiProgram → ℕ → Event
+abbrev pub fetch_of : MpiProgram → ℕ → RunEvent
 fetch_of p taker = event_of_fetch (receive_on_handle p taker) taker
 
 -- ---- when an issued call has returned

@@ -1,6 +1,6 @@
 -- What is said of a send and one of its takers where a call is issued.
 use Rattle.std.proofs.Common.{ℕ, List, [], ◌∷◌, ◌++◌}
-use Rattle.formula.specs.declared.facts.Event.TheVariants.{Issue as issue_of}
+use Rattle.formula.specs.declared.facts.RunEvent.TheVariants.{Issue as issue_of}
 use Rattle.formula.specs.declared.facts.Fact.TheVariants.{Issued as issued, Matched as matched}
 use Rattle.formula.specs.declared.facts.Statement.TheVariants.{Fails as is_false, Earlier as is_earlier}
 use Rattle.callorder.specs.Programs.{MpiProgram}

@@ -13,7 +13,7 @@ use crate::symbolic::Symbolic;
 use crate::{matches, returns};
 use callorder::Program;
 use calltext::Policy;
-use formula::{Event, Fact, Family, Statement};
+use formula::{RunEvent, Fact, Family, Statement};
 use formula_tables::{ProgramTables, is_last, is_standard, previous, rank_of, when_returned};
 use std::alloc::{AllocError, Global};
 
@@ -37,7 +37,7 @@ fn issued_after(
     if let Some(before) = before {
         let unissued = Statement::Fails(Fact::Issued(call));
         let issued = Statement::Holds(Fact::Issued(before));
-        let earlier = Statement::Earlier(Event::Issue(before), Event::Issue(call));
+        let earlier = Statement::Earlier(RunEvent::Issue(before), RunEvent::Issue(call));
         clauses.add(&[unissued, issued])?;
         clauses.add(&[earlier])?;
     }

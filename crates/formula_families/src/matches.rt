@@ -6,12 +6,12 @@ ghost use Rattle.candidates.specs.Pairs.{takers_of, pairs_of, pair_at};
 ghost use Rattle.nonovertake.specs.Earlier.{earlier_sends, earlier_takers};
 ghost use Rattle.formula.specs.declared.facts.Fact.TheVariants.{Issued as issued, Matched as matched};
 ghost use Rattle.formula.specs.declared.facts.Statement.TheVariants.{Holds as is_true, Fails as is_false, Earlier as is_earlier};
-ghost use Rattle.formula.specs.declared.facts.Event.TheVariants.{Match as match_of};
+ghost use Rattle.formula.specs.declared.facts.RunEvent.TheVariants.{Match as match_of};
 ghost use Rattle.formula.specs.Families.{sends_of, see_clauses, issued_before_match, without_later_pairs, send_is_matched_before, taker_is_matched_before, pair_does_not_wait};
 
 use crate::lists::{push_sends, push_takers};
 use crate::symbolic::Symbolic;
-use formula::{Event, Fact, Statement};
+use formula::{RunEvent, Fact, Statement};
 use formula_tables::ProgramTables;
 use std::alloc::{AllocError, Global};
 
@@ -25,11 +25,11 @@ pub fn issued_before_match(
     ensures { OnOk result (clauses.new ≡ clauses.old ++ issued_before_match send taker) }
 {
     let unmatched = Statement::Fails(Fact::Matched(send, taker));
-    let matching = Event::Match(taker);
+    let matching = RunEvent::Match(taker);
     let send_issued = Statement::Holds(Fact::Issued(send));
     let taker_issued = Statement::Holds(Fact::Issued(taker));
-    let send_earlier = Statement::Earlier(Event::Issue(send), matching);
-    let taker_earlier = Statement::Earlier(Event::Issue(taker), matching);
+    let send_earlier = Statement::Earlier(RunEvent::Issue(send), matching);
+    let taker_earlier = Statement::Earlier(RunEvent::Issue(taker), matching);
     clauses.add(&[unmatched, send_issued])?;
     clauses.add(&[unmatched, taker_issued])?;
     clauses.add(&[unmatched, send_earlier])?;
@@ -92,7 +92,7 @@ fn seen_before_taken(
     let unseen = Statement::Fails(Fact::Matched(send, probe));
     for taker in takers {
         let unmatched = Statement::Fails(Fact::Matched(send, *taker));
-        let seen_earlier = Statement::Earlier(Event::Match(probe), Event::Match(*taker));
+        let seen_earlier = Statement::Earlier(RunEvent::Match(probe), RunEvent::Match(*taker));
         clauses.add(&[unseen, unmatched, seen_earlier])?;
     }
     Ok(())
@@ -159,7 +159,7 @@ fn matched_earlier(
     let unmatched = Statement::Fails(Fact::Matched(pair.0, pair.1));
     for other in others {
         let other_unmatched = Statement::Fails(Fact::Matched(earlier, *other));
-        let other_earlier = Statement::Earlier(Event::Match(*other), Event::Match(pair.1));
+        let other_earlier = Statement::Earlier(RunEvent::Match(*other), RunEvent::Match(pair.1));
         clauses.add(&[unmatched, other_unmatched, other_earlier])?;
     }
     Ok(())
@@ -218,7 +218,7 @@ fn taker_is_matched_before(
     let mut clause = vec![in alloc; unmatched]?;
     push_sends(&mut clause, earlier, others.as_slice())?;
     clauses.add(clause.as_slice())?;
-    let matched_earlier = Statement::Earlier(Event::Match(earlier), Event::Match(pair.1));
+    let matched_earlier = Statement::Earlier(RunEvent::Match(earlier), RunEvent::Match(pair.1));
     clauses.add(&[unmatched, matched_earlier])?;
     Ok(())
 }

@@ -5,13 +5,13 @@ ghost use Rattle.std.specs.List.{flat_map};
 ghost use Rattle.candidates.specs.Pairs.{takers_of};
 ghost use Rattle.formula.specs.declared.facts.Fact.TheVariants.{Issued as issued, Matched as matched};
 ghost use Rattle.formula.specs.declared.facts.Statement.TheVariants.{Holds as is_true, Fails as is_false, Earlier as is_earlier};
-ghost use Rattle.formula.specs.declared.facts.Event.TheVariants.{Issue as issue_of};
+ghost use Rattle.formula.specs.declared.facts.RunEvent.TheVariants.{Issue as issue_of};
 ghost use Rattle.formula.specs.declared.facts.Condition.TheVariants.{IfMatched as if_matched};
 ghost use Rattle.formula.specs.Families.{fetch_of, receive_on_handle, where_fetched, where_returned_under, where_returned, handle_is_received_on, is_fetched_before, is_returned_before};
 
 use crate::lists::{push_sends, push_takers};
 use crate::symbolic::Symbolic;
-use formula::{Condition, Event, Fact, Statement};
+use formula::{Condition, RunEvent, Fact, Statement};
 use formula_tables::{ProgramTables, fetch_of, receive_on_handle, when_returned};
 use std::alloc::{AllocError, Global};
 
@@ -106,7 +106,7 @@ fn fetched_earlier(
     let unissued = Statement::Fails(Fact::Issued(call));
     let unmatched = Statement::Fails(Fact::Matched(pair.0, pair.1));
     let fetch = fetch_of(source.program(), pair.1);
-    let earlier = Statement::Earlier(fetch, Event::Issue(call));
+    let earlier = Statement::Earlier(fetch, RunEvent::Issue(call));
     let mut clause = vec![in alloc; unissued, unmatched, earlier]?;
     clause.extend_from_slice(otherwise)?;
     clauses.add(clause.as_slice())?;
@@ -155,7 +155,7 @@ fn is_matched_before(
     let mut clause = vec![in alloc; unissued]?;
     push_sends(&mut clause, taker, source.sends_of(taker))?;
     clauses.add(clause.as_slice())?;
-    let earlier = Statement::Earlier(Event::Match(taker), Event::Issue(call));
+    let earlier = Statement::Earlier(RunEvent::Match(taker), RunEvent::Issue(call));
     clauses.add(&[unissued, earlier])?;
     Ok(())
 }

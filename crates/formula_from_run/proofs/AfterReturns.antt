@@ -15,7 +15,7 @@ use Rattle.run_laws.specs.Laws.{IsInRankOrder}
 use Rattle.run_laws.proofs.Issued.{issued_before, call_before_has_returned}
 use Rattle.run_laws.proofs.Matched.{send_before, found_before}
 use Rattle.candidates.specs.Pairs.{places, takers_of}
-use Rattle.formula.specs.declared.facts.Event.TheVariants.{Issue as issue_of, Match as match_of}
+use Rattle.formula.specs.declared.facts.RunEvent.TheVariants.{Issue as issue_of, Match as match_of}
 use Rattle.formula.specs.declared.facts.Fact.TheVariants.{Issued as issued, Buffered as buffered, Matched as matched}
 use Rattle.formula.specs.declared.facts.Statement.TheVariants.{Holds as is_true, Fails as is_false, Earlier as is_earlier}
 use Rattle.formula.specs.declared.facts.Condition.{Condition}

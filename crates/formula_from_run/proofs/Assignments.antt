@@ -7,7 +7,7 @@ use Rattle.callorder.specs.Programs.{MpiProgram}
 use Rattle.semantics.specs.declared.state.Step.{Step}
 use Rattle.semantics.specs.Machine.{IsStuckRun}
 use Rattle.clauses.specs.Clauses.{Literal, TruthAssignment, satisfies, satisfies_clause}
-use Rattle.formula.specs.declared.facts.Event.{Event}
+use Rattle.formula.specs.declared.facts.RunEvent.{RunEvent}
 use Rattle.formula.specs.declared.facts.Statement.{Statement}
 use Rattle.formula.specs.declared.facts.Statement.TheVariants.{Holds as is_true, Fails as is_false, Earlier as is_earlier}
 use Rattle.formula.specs.Families.{SymbolicClause, event_at, place_of_event, families, said, first_families, last_families}
@@ -40,8 +40,8 @@ right_agrees p a world (is_true y) told order listed = told
 right_agrees p a world (is_false y) told order listed = told
 right_agrees p a world (is_earlier e f) told order listed =
     order ∙
-    ap (λ (z : Event). nat_lt (world.clock z) (world.clock (event_at p (place_of_event p f)))) listed.0 ∙
-    ap (λ (z : Event). nat_lt (world.clock e) (world.clock z)) listed.1
+    ap (λ (z : RunEvent). nat_lt (world.clock z) (world.clock (event_at p (place_of_event p f)))) listed.0 ∙
+    ap (λ (z : RunEvent). nat_lt (world.clock e) (world.clock z)) listed.1
 
 -- the same of each statement of the formula's families
 abbrev pub InAll : MpiProgram → (Statement → Type 0) → Type 0

@@ -3,7 +3,7 @@ use Rattle.std.proofs.Common.{◌≡◌, ℕ, ◌<◌, true, false, length, arit
 use Rattle.std.proofs.lemmas.Bool.Decides.{nat_tests}
 use Rattle.std.proofs.lemmas.List.Sums.{position_or_len_is}
 use Rattle.callorder.specs.Programs.{MpiProgram}
-use Rattle.formula.specs.declared.facts.Event.TheVariants.{Issue as issue_of}
+use Rattle.formula.specs.declared.facts.RunEvent.TheVariants.{Issue as issue_of}
 use Rattle.formula.specs.Facts.{is_same_event}
 use Rattle.formula.specs.Families.{events, event_at, place_of_event}
 use Rattle.formula.proofs.Events.{issue_at, events_size}

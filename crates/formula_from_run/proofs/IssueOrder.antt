@@ -13,7 +13,7 @@ use Rattle.run_laws.specs.Places.{IsIssuedAt}
 use Rattle.run_laws.specs.Laws.{IsInRankOrder}
 use Rattle.run_laws.proofs.Issued.{earlier_calls_issue_first}
 use Rattle.candidates.specs.Pairs.{places}
-use Rattle.formula.specs.declared.facts.Event.TheVariants.{Issue as issue_of}
+use Rattle.formula.specs.declared.facts.RunEvent.TheVariants.{Issue as issue_of}
 use Rattle.formula.specs.Families.{previous_of_rank, issued_after}
 use Rattle.formula_from_run.specs.Worlds.{is_event, clause_holds, clauses_hold, clock_from, world_of}
 use Rattle.formula_from_run.specs.Laws.{CallsAreIssuedInOrder}

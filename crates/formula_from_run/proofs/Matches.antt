@@ -16,7 +16,7 @@ use Rattle.run_laws.proofs.Descent.{some_match_or_see_is_enabled, takes_fit}
 use Rattle.run_laws.proofs.Matched.{not_true}
 use Rattle.run_laws.specs.Places.{find_step}
 use Rattle.candidates.specs.Pairs.{places, takers_of}
-use Rattle.formula.specs.declared.facts.Event.TheVariants.{Issue as issue_of, Match as match_of}
+use Rattle.formula.specs.declared.facts.RunEvent.TheVariants.{Issue as issue_of, Match as match_of}
 use Rattle.formula.specs.declared.facts.Fact.TheVariants.{Issued as issued, Matched as matched}
 use Rattle.formula.specs.declared.facts.Statement.TheVariants.{Holds as is_true, Fails as is_false, Earlier as is_earlier}
 use Rattle.nonovertake.specs.Earlier.{earlier_sends}

@@ -5,8 +5,8 @@ use Rattle.callorder.specs.Programs.{MpiProgram}
 use Rattle.semantics.specs.declared.state.Step.{Step}
 use Rattle.semantics.specs.declared.state.Step.TheVariants.{Issue, Match, See}
 use Rattle.semantics.specs.Machine.{Configuration, opening, after_all}
-use Rattle.formula.specs.declared.facts.Event.{Event}
-use Rattle.formula.specs.declared.facts.Event.TheVariants.{Issue as issue_of, Match as match_of}
+use Rattle.formula.specs.declared.facts.RunEvent.{RunEvent}
+use Rattle.formula.specs.declared.facts.RunEvent.TheVariants.{Issue as issue_of, Match as match_of}
 use Rattle.formula.specs.Families.{event_at, place_of_event}
 use Rattle.formula_from_run.specs.Worlds.{is_that, is_event, clock_from}
 use Rattle.formula_from_run.specs.Laws.{ClocksDiffer}
@@ -20,7 +20,7 @@ one_issue : (o : Option ℕ) (c d : ℕ) → is_that o c ≡ true → is_that o 
 one_issue None c d e f = absurd (cc)
 one_issue (Some x) c d e f = grind (arith, nat_tests)
 
-one_event : (m : Configuration) (x : Step) (e f : Event) → is_event m x e ≡ true → is_event m x f ≡ true → e ≡ f
+one_event : (m : Configuration) (x : Step) (e f : RunEvent) → is_event m x e ≡ true → is_event m x f ≡ true → e ≡ f
 one_event m (Issue r b) (issue_of c) (issue_of d) i j = ap issue_of (one_issue (slice_get m.next r) c d i j)
 one_event m (Issue r b) (issue_of c) (match_of d) i j = absurd (cc)
 one_event m (Issue r b) (match_of c) f i j = absurd (cc)
@@ -31,7 +31,7 @@ one_event m (Match s t) (issue_of c) f i j = absurd (cc)
 one_event m (Match s t) (match_of c) (issue_of d) i j = absurd (cc)
 one_event m (Match s t) (match_of c) (match_of d) i j = ap match_of (let same : c ≡ d = grind (arith, nat_tests) in same)
 
-same_step : (p : MpiProgram) (m : Configuration) (steps : List Step) (e f : Event) (i : ℕ) → clock_from p m steps e ≡ i → clock_from p m steps f ≡ i → i < length steps → e ≡ f
+same_step : (p : MpiProgram) (m : Configuration) (steps : List Step) (e f : RunEvent) (i : ℕ) → clock_from p m steps e ≡ i → clock_from p m steps f ≡ i → i < length steps → e ≡ f
 same_step p m steps e f i h g below =
     let w = happens p m steps e (omega (arith, h, below)) in
     let v = happens p m steps f (omega (arith, g, below)) in
@@ -42,7 +42,7 @@ same_step p m steps e f i h g below =
     let also : is_event (after_all m (take i steps)) v.step f ≡ true = subst (λ (z : ℕ). is_event (after_all m (take z steps)) v.step f ≡ true) g v.is in
     one_event (after_all m (take i steps)) w.step e f is (subst (λ (z : Step). is_event (after_all m (take i steps)) z f ≡ true) same also)
 
-one_place_each : (p : MpiProgram) (m : Configuration) (steps : List Step) (e f : Event) → clock_from p m steps e ≡ clock_from p m steps f → place_of_event p e ≡ place_of_event p f
+one_place_each : (p : MpiProgram) (m : Configuration) (steps : List Step) (e f : RunEvent) → clock_from p m steps e ≡ clock_from p m steps f → place_of_event p e ≡ place_of_event p f
 one_place_each p m steps e f same =
     elim (happens_or_never p m steps e) [
       | inl soon ↦ ap (place_of_event p) (same_step p m steps e f (clock_from p m steps e) refl (sym same) soon)

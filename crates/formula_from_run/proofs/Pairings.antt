@@ -12,7 +12,7 @@ use Rattle.semantics.proofs.Runs.{IsRun-at}
 use Rattle.run_laws.proofs.Matched.{found_once, no_send_is_taker, send_before, found_before, can_find_at, not_true, same_size}
 use Rattle.run_laws.specs.Places.{find_step, IsFoundAt}
 use Rattle.formula.proofs.Elements.{and_both}
-use Rattle.formula.specs.declared.facts.Event.TheVariants.{Match as match_of}
+use Rattle.formula.specs.declared.facts.RunEvent.TheVariants.{Match as match_of}
 use Rattle.formula_from_run.specs.Worlds.{is_event, clock_from}
 use Rattle.formula_from_run.proofs.Clocks.{happens, clock_at_most}
 

@@ -15,7 +15,7 @@ use Rattle.semantics.specs.declared.state.Step.TheVariants.{Match, See}
 use Rattle.semantics.specs.Machine.{opening, after_all, IsRun}
 use Rattle.run_laws.specs.Places.{find_step}
 use Rattle.run_laws.proofs.Matched.{matched_after}
-use Rattle.formula.specs.declared.facts.Event.TheVariants.{Match as match_of}
+use Rattle.formula.specs.declared.facts.RunEvent.TheVariants.{Match as match_of}
 use Rattle.formula.specs.declared.facts.Fact.TheVariants.{Matched as matched}
 use Rattle.formula.specs.declared.facts.Statement.TheVariants.{Fails as is_false, Earlier as is_earlier}
 use Rattle.formula.specs.Families.{issued_before_match, seen_before_taken, without_later_sends, send_is_matched_before, taker_is_matched_before, pair_does_not_wait, see_clauses}

@@ -11,7 +11,7 @@ use Rattle.run_laws.proofs.Matched.{matched_after}
 use Rattle.run_laws.proofs.Descent.{takes_fit}
 use Rattle.std.proofs.lemmas.List.{length-replicate}
 use Rattle.candidates.specs.Pairs.{places, takers_of}
-use Rattle.formula.specs.declared.facts.Event.TheVariants.{Match as match_of}
+use Rattle.formula.specs.declared.facts.RunEvent.TheVariants.{Match as match_of}
 use Rattle.formula.specs.declared.facts.Fact.TheVariants.{Matched as matched}
 use Rattle.formula.specs.declared.facts.Statement.TheVariants.{Holds as is_true, Fails as is_false}
 use Rattle.nonovertake.specs.Earlier.{earlier_takers}

@@ -9,8 +9,8 @@ use Rattle.callorder.specs.Programs.{MpiProgram}
 use Rattle.semantics.specs.declared.state.Step.{Step}
 use Rattle.semantics.specs.declared.state.Step.TheVariants.{Issue, Match, See}
 use Rattle.semantics.specs.Machine.{Configuration, opening, after, after_all, IsEnabled, IsRun, IsStuckRun, is_issued, is_buffered, partner_of, is_rank_finished}
-use Rattle.formula.specs.declared.facts.Event.{Event}
-use Rattle.formula.specs.declared.facts.Event.TheVariants.{Issue as issue_of, Match as match_of}
+use Rattle.formula.specs.declared.facts.RunEvent.{RunEvent}
+use Rattle.formula.specs.declared.facts.RunEvent.TheVariants.{Issue as issue_of, Match as match_of}
 use Rattle.formula.specs.declared.facts.Fact.{Fact}
 use Rattle.formula.specs.declared.facts.Fact.TheVariants.{Issued as issued, Buffered as buffered, Matched as matched, Unfinished as unfinished}
 use Rattle.formula.specs.declared.facts.Statement.{Statement}
@@ -20,7 +20,7 @@ use Rattle.formula.specs.Families.{SymbolicClause, is_standard, place_of_event}
 -- which facts hold, and for each event a number, its clock, by which events are ordered
 pub record World : Type 0 where
   pub has : Fact → Bool
-  pub clock : Event → ℕ
+  pub clock : RunEvent → ℕ
 
 -- ---- what is right in a world
 
@@ -46,7 +46,7 @@ is_that None c = false
 is_that (Some d) c = d == c
 
 -- the step, where it is taken in this configuration, is the event
-abbrev pub is_event : Configuration → Step → Event → Bool
+abbrev pub is_event : Configuration → Step → RunEvent → Bool
 is_event m (Issue rank choice) (issue_of c) = is_that (slice_get m.next rank) c
 is_event m (Issue rank choice) (match_of taker) = false
 is_event m (Match send other) (issue_of c) = false
@@ -56,7 +56,7 @@ is_event m (See send other) (match_of probe) = other == probe
 
 -- How many of the steps, taken from this configuration on, come before the event. One that never
 -- happens comes after all steps, by its place in the list of events.
-abbrev pub clock_from : MpiProgram → Configuration → List Step → Event → ℕ
+abbrev pub clock_from : MpiProgram → Configuration → List Step → RunEvent → ℕ
 clock_from p m [] e = place_of_event p e
 clock_from p m (step ∷ steps) e = cond (is_event m step e) 0 (suc (clock_from p (after m step) steps e))
 

@@ -8,8 +8,8 @@ use Rattle.std.proofs.lemmas.List.FromFn.{length-range_with_len}
 use Rattle.callorder.specs.Programs.{MpiProgram}
 use Rattle.candidates.specs.Pairs.{places}
 use Rattle.formula.specs.Facts.{is_same_event}
-use Rattle.formula.specs.declared.facts.Event.{Event}
-use Rattle.formula.specs.declared.facts.Event.TheVariants.{Issue as issue_of, Match as match_of}
+use Rattle.formula.specs.declared.facts.RunEvent.{RunEvent}
+use Rattle.formula.specs.declared.facts.RunEvent.TheVariants.{Issue as issue_of, Match as match_of}
 use Rattle.formula.specs.Families.{events, place_of_event, finds_message}
 use Rattle.formula.proofs.Elements.{Each, each_append, each_map, each_filter, each_range, each_mono, all_from_each}
 use Rattle.formula.proofs.Numbers.{position_map}
@@ -43,7 +43,7 @@ map_map g f (x ∷ xs) = ap (λ l. g (f x) ∷ l) (map_map g f xs)
 
 -- ---- events
 
-abbrev IsBelow : ℕ → Event → Type 0
+abbrev IsBelow : ℕ → RunEvent → Type 0
 IsBelow n (issue_of c) = c < n
 IsBelow n (match_of t) = t < n
 
@@ -77,7 +77,7 @@ match_match : (n t u : ℕ) (s : Bool) → nat_lt t n ≡ s → u < n → ((if s
 match_match n t u true e below = grind (arith, nat_tests)
 match_match n t u false e below = grind (arith, nat_tests)
 
-told_apart : (n : ℕ) (e f : Event) → IsBelow n f → (event_slot n e == event_slot n f) ≡ is_same_event e f
+told_apart : (n : ℕ) (e f : RunEvent) → IsBelow n f → (event_slot n e == event_slot n f) ≡ is_same_event e f
 told_apart n (issue_of c) (issue_of d) below =
     ap (λ (z : ℕ). event_slot n (issue_of c) == z) (chosen d n d (n + n) below) ∙ issue_issue n c d (nat_lt c n) refl below
 told_apart n (issue_of c) (match_of t) below =
@@ -99,13 +99,13 @@ slots_of_events p =
     ap (λ l. l ++ map (λ t. n + t) takers) first ∙ (ap (λ l. map (event_slot n) (map issue_of (places p)) ++ l) second ∙ sym (map-append (event_slot n) (map issue_of (places p)) (map match_of takers)))
 
 -- an event's place is that of its number
-pub event_place : (p : MpiProgram) (e : Event) → first_place (event_slot (length p.calls) e) (event_slots p) ≡ place_of_event p e
+pub event_place : (p : MpiProgram) (e : RunEvent) → first_place (event_slot (length p.calls) e) (event_slots p) ≡ place_of_event p e
 event_place p e =
     let n = length p.calls in
     place_by_number (is_same_event e) (event_slot n) (event_slot n e) (events p) (event_slots p) (slots_of_events p)
     (each_mono (IsBelow n) (λ f. (event_slot n e == event_slot n f) ≡ is_same_event e f) (λ f below. told_apart n e f below) (events p) (events_below p))
 
-slot_below : (n : ℕ) (e : Event) → IsBelow n e → event_slot n e < n + n
+slot_below : (n : ℕ) (e : RunEvent) → IsBelow n e → event_slot n e < n + n
 slot_below n (issue_of c) below = omega (arith, chosen c n c (n + n) below, below)
 slot_below n (match_of t) below = omega (arith, chosen t n (n + t) (n + n) below, below)
 

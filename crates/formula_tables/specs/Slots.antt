@@ -3,14 +3,14 @@ use Rattle.std.specs.Prelude.{ℕ, ◌+◌, ◌*◌, ◌&&◌, nat_lt, if◌then
 use Rattle.std.specs.List.{range_with_len}
 use Rattle.callorder.specs.Programs.{MpiProgram}
 use Rattle.candidates.specs.Pairs.{places}
-use Rattle.formula.specs.declared.facts.Event.{Event}
-use Rattle.formula.specs.declared.facts.Event.TheVariants.{Issue as issue_of, Match as match_of}
+use Rattle.formula.specs.declared.facts.RunEvent.{RunEvent}
+use Rattle.formula.specs.declared.facts.RunEvent.TheVariants.{Issue as issue_of, Match as match_of}
 use Rattle.formula.specs.declared.facts.Fact.{Fact}
 use Rattle.formula.specs.declared.facts.Fact.TheVariants.{Issued as issued, Buffered as buffered, Matched as matched, Unfinished as unfinished}
 use Rattle.formula.specs.Families.{finds_message}
 
 -- the number of an event among those of so many calls; twice as many where it isn't one of them
-abbrev pub event_slot : ℕ → Event → ℕ
+abbrev pub event_slot : ℕ → RunEvent → ℕ
 event_slot calls (issue_of c) = if nat_lt c calls then c else calls + calls
 event_slot calls (match_of t) = if nat_lt t calls then calls + t else calls + calls
 

@@ -6,7 +6,7 @@ ghost use Rattle.formula.specs.Families.{finds_message, is_standard, receive_on_
 
 use callorder::{Call, Kind, Program};
 use calltext::Mode;
-use formula::{Condition, Event};
+use formula::{Condition, RunEvent};
 
 /// Whether the call is a receive, a matched probe or a probe.
 pub fn is_finder(program: &Program, call: usize) -> bool
@@ -78,12 +78,12 @@ pub fn rank_of(program: &Program, call: usize) -> usize
 }
 
 /// The event by which a taker fetches its message.
-pub fn fetch_of(program: &Program, taker: usize) -> Event
+pub fn fetch_of(program: &Program, taker: usize) -> RunEvent
     ensures { result ≡ fetch_of program.now taker }
 {
     match receive_on_handle(program, taker) {
-        None => Event::Match(taker),
-        Some(receive) => Event::Issue(receive),
+        None => RunEvent::Match(taker),
+        Some(receive) => RunEvent::Issue(receive),
     }
 }
 

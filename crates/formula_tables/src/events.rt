@@ -7,9 +7,9 @@ ghost use Rattle.formula.specs.Families.{events, place_of_event, finds_message};
 ghost use Rattle.formula_tables.specs.Slots.{event_slot, event_slots};
 
 use crate::calls;
-use crate::places::Places;
+use crate::places::FirstPlaces;
 use callorder::Program;
-use formula::Event;
+use formula::RunEvent;
 use std::alloc::{AllocError, Global};
 use std::marker::Model;
 
@@ -18,7 +18,7 @@ use std::marker::Model;
 #[derive(Drop)]
 pub struct Events<'a> {
     program: &'a Program,
-    places: Places,
+    places: FirstPlaces,
 }
 
 impl<'a> Model for Events<'a> {
@@ -34,13 +34,13 @@ impl<'a> Model for Events<'a> {
 }
 
 /// The number of an event among those of so many calls.
-fn slot(calls: usize, event: &Event) -> usize
+fn slot(calls: usize, event: &RunEvent) -> usize
     requires { calls < 2 ^ 62 }
     ensures { result ≡ event_slot calls event.now }
 {
     match *event {
-        Event::Issue(call) => { if call < calls { call } else { calls + calls } }
-        Event::Match(taker) => {
+        RunEvent::Issue(call) => { if call < calls { call } else { calls + calls } }
+        RunEvent::Match(taker) => {
             if taker < calls {
                 calls + taker
             } else {
@@ -121,7 +121,7 @@ impl<'a> Events<'a> {
     {
         let calls = program.calls().len();
         let slots = slots(alloc, program)?;
-        let places = Places::make(alloc, calls + calls, slots)?;
+        let places = FirstPlaces::make(alloc, calls + calls, slots)?;
         Ok(Events { program, places })
     }
 
@@ -141,7 +141,7 @@ impl<'a> Events<'a> {
 
     /// The place of the event, from 0, or the number of all events where it is none of the
     /// program's.
-    pub fn place_of(&self, event: &Event) -> usize
+    pub fn place_of(&self, event: &RunEvent) -> usize
         ensures { result ≡ place_of_event self.now event.now }
     {
         self.places.first(slot(self.program.calls().len(), event))

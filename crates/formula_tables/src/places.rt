@@ -8,12 +8,12 @@ use std::marker::Model;
 
 /// A list of numbers, with the first place of each.
 #[derive(Drop)]
-pub struct Places {
+pub struct FirstPlaces {
     numbers: Vec<usize>,
     firsts: Vec<usize>,
 }
 
-impl Model for Places {
+impl Model for FirstPlaces {
     ghost use Rattle.std.specs.Prelude.{ℕ, List};
     ghost use Rattle.formula_tables.specs.Places.{AreFirstPlaces};
 
@@ -37,15 +37,15 @@ fn fill(firsts: &mut [usize], numbers: &[usize])
     }
 }
 
-impl Places {
+impl FirstPlaces {
     /// The places of these numbers, each below a bound. The only error is want of memory.
-    pub fn make(alloc: Global, bound: usize, numbers: Vec<usize>) -> Result<Places, AllocError>
+    pub fn make(alloc: Global, bound: usize, numbers: Vec<usize>) -> Result<FirstPlaces, AllocError>
         requires { All (λ n. n < bound) numbers.items }
         ensures { IfOk result (λ places. places ≡ numbers.items) }
     {
         let mut firsts = vec![in alloc; numbers.len(); bound]?;
         fill(firsts.as_mut_slice(), numbers.as_slice());
-        Ok(Places { numbers, firsts })
+        Ok(FirstPlaces { numbers, firsts })
     }
 
     /// How many numbers there are.

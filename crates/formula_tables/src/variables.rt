@@ -10,10 +10,10 @@ ghost use Rattle.formula_tables.specs.Slots.{pair_slot, fact_slot};
 ghost use Rattle.formula_tables.specs.Numbers.{IsSmall};
 
 use crate::events::Events;
-use crate::places::Places;
+use crate::places::FirstPlaces;
 use callorder::Program;
 use clauses::Lit;
-use formula::{Event, Fact, Meaning, Statement};
+use formula::{RunEvent, Fact, Meaning, Statement};
 use std::alloc::{AllocError, Global};
 use std::marker::Model;
 
@@ -22,8 +22,8 @@ use std::marker::Model;
 pub struct Variables<'a> {
     program: &'a Program,
     events: Events<'a>,
-    facts: Places,
-    used: Places,
+    facts: FirstPlaces,
+    used: FirstPlaces,
     size: usize,
 }
 
@@ -110,8 +110,8 @@ impl<'a> Variables<'a> {
         let most = events.len();
         let facts = fact_slots(alloc, calls, facts)?;
         let used = pair_slots(alloc, most, used)?;
-        let facts = Places::make(alloc, calls + calls + 64 + calls * calls, facts)?;
-        let used = Places::make(alloc, most * most, used)?;
+        let facts = FirstPlaces::make(alloc, calls + calls + 64 + calls * calls, facts)?;
+        let used = FirstPlaces::make(alloc, most * most, used)?;
         Ok(Variables {
             program,
             events,
@@ -138,7 +138,7 @@ impl<'a> Variables<'a> {
 
     /// The place of the event among those of the program, from 0, or the number of all events where
     /// it is none.
-    pub fn event_place(&self, event: &Event) -> usize
+    pub fn event_place(&self, event: &RunEvent) -> usize
         ensures { result ≡ place_of_event self.now event.now }
     {
         self.events.place_of(event)

@@ -3,8 +3,8 @@ use Rattle.std.specs.Prelude.{◌≡◌, ◌==◌, ◌||◌, ◌-◌, ℕ, Bool,
 use Rattle.std.specs.List.{flat_map}
 use Rattle.plaintext.specs.TextLines.{text_lines}
 use Rattle.plaintext.specs.Plain.{numeral}
-use Rattle.junit.specs.declared.report.Outcome.{Outcome}
-use Rattle.junit.specs.declared.report.Outcome.TheVariants.{Passed, Failed, Broken}
+use Rattle.junit.specs.declared.report.TestOutcome.{TestOutcome}
+use Rattle.junit.specs.declared.report.TestOutcome.TheVariants.{Passed, Failed, Broken}
 use Rattle.junit.specs.declared.report.Report.{Report}
 
 -- a question mark stands for a byte that is no printable ASCII
@@ -23,7 +23,7 @@ escaped = flat_map escaped_byte
 -- a test: its name, what came of it, and the text that tells it
 pub record Case : Type 0 where
   pub name : List ℕ
-  pub outcome : Outcome
+  pub outcome : TestOutcome
   pub text : List ℕ
 
 -- the first of these lines, without the LF that parts it from the next one
@@ -41,7 +41,7 @@ element tag text =
     codes "<" ++ (tag ++ (codes " message=\"" ++ (escaped (first_text_line text) ++ (codes "\">" ++ (escaped text ++ (codes "</" ++ (tag ++ codes ">")))))))
 
 -- what is told of a test that didn't pass
-abbrev pub outcome_text : Outcome → List ℕ → List ℕ
+abbrev pub outcome_text : TestOutcome → List ℕ → List ℕ
 outcome_text Passed text = []
 outcome_text Failed text = element (codes "failure") text
 outcome_text Broken text = element (codes "error") text
@@ -50,12 +50,12 @@ abbrev pub case_text : Case → List ℕ
 case_text c =
     codes "<testcase classname=\"mpiprove\" name=\"" ++ (escaped c.name ++ (codes "\">" ++ (outcome_text c.outcome c.text ++ codes "</testcase>\n")))
 
-abbrev pub is_failed : Outcome → Bool
+abbrev pub is_failed : TestOutcome → Bool
 is_failed Passed = false
 is_failed Failed = true
 is_failed Broken = false
 
-abbrev pub is_broken : Outcome → Bool
+abbrev pub is_broken : TestOutcome → Bool
 is_broken Passed = false
 is_broken Failed = false
 is_broken Broken = true

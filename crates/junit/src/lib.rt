@@ -5,4 +5,4 @@
 mod escaping;
 mod report;
 
-pub use report::{Outcome, Report};
+pub use report::{TestOutcome, Report};

@@ -10,7 +10,7 @@ use writing::{Part, put_parts, put_text};
 
 /// What came of a test.
 #[derive(Clone, Copy, PartialEq, Eq)]
-pub enum Outcome {
+pub enum TestOutcome {
     /// It passed.
     Passed,
     /// It failed.
@@ -63,18 +63,18 @@ fn put_element(out: &mut Vec<u8>, tag: &str, text: &[u8]) -> Result<(), AllocErr
 }
 
 /// Writes what is told of a test that didn't pass.
-fn put_told(out: &mut Vec<u8>, outcome: Outcome, text: &[u8]) -> Result<(), AllocError>
+fn put_told(out: &mut Vec<u8>, outcome: TestOutcome, text: &[u8]) -> Result<(), AllocError>
     ensures { OnOk result (out.new.items ≡ out.old.items ++ outcome_text outcome text.now) }
 {
     match outcome {
-        Outcome::Passed => Ok(()),
-        Outcome::Failed => put_element(out, "failure", text),
-        Outcome::Broken => put_element(out, "error", text),
+        TestOutcome::Passed => Ok(()),
+        TestOutcome::Failed => put_element(out, "failure", text),
+        TestOutcome::Broken => put_element(out, "error", text),
     }
 }
 
 /// Writes a test.
-fn put_case(out: &mut Vec<u8>, name: &str, outcome: Outcome, text: &[u8]) -> Result<(), AllocError>
+fn put_case(out: &mut Vec<u8>, name: &str, outcome: TestOutcome, text: &[u8]) -> Result<(), AllocError>
     ensures { OnOk result (out.new.items ≡ out.old.items ++ case_text (record { name = name.now; outcome = outcome; text = text.now })) }
 {
     put_text(out, "<testcase classname=\"mpiprove\" name=\"")?;
@@ -101,16 +101,16 @@ impl Report {
     /// that didn't pass alone, and its first line is the message. A byte that is neither LF nor
     /// printable ASCII becomes a question mark. The only error is want of memory, behind which the
     /// report isn't to be used.
-    pub fn add(&mut self, name: &str, outcome: Outcome, text: &[u8]) -> Result<(), AllocError>
+    pub fn add(&mut self, name: &str, outcome: TestOutcome, text: &[u8]) -> Result<(), AllocError>
         ensures { (cases : List Case) → IsOf cases self.old
             → OnOk result (IsOf (cases ++ record { name = name.now; outcome = outcome; text = text.now } ∷ []) self.new) }
     {
         put_case(&mut self.cases, name, outcome, text)?;
         self.tests = next(self.tests)?;
         match outcome {
-            Outcome::Passed => {}
-            Outcome::Failed => self.failures = next(self.failures)?,
-            Outcome::Broken => self.errors = next(self.errors)?,
+            TestOutcome::Passed => {}
+            TestOutcome::Failed => self.failures = next(self.failures)?,
+            TestOutcome::Broken => self.errors = next(self.errors)?,
         }
         Ok(())
     }

@@ -9,7 +9,7 @@ use Rattle.semantics.specs.declared.state.Step.{Step}
 use Rattle.semantics.specs.declared.state.Step.TheVariants.{Issue}
 use Rattle.races.proofs.Passing.{none_issued}
 use Rattle.races.proofs.Telling.{programs_are_in_order}
-use Rattle.leastrun.specs.declared.rows.Rows.{Rows}
+use Rattle.leastrun.specs.declared.rows.SlotRows.{SlotRows}
 use Rattle.leastrun.specs.declared.tables.Tables.{Tables}
 use Rattle.leastrun.specs.declared.walk.Buffering.{Buffering}
 use Rattle.leastrun.specs.declared.walk.Buffering.TheVariants.{Least, Most}
@@ -28,7 +28,7 @@ nothing_there entries i e none there =
     let low : i < 0 = slice_get_within empty i e none_there in
     absurd (let never : ⊥ = omega (arith, low) in never)
 
-order_of_none : (p : MpiProgram) (m : Configuration) (rows : Rows) → ((q : ℕ) → row rows q ≡ []) → AreInOrder p m rows
+order_of_none : (p : MpiProgram) (m : Configuration) (rows : SlotRows) → ((q : ℕ) → row rows q ≡ []) → AreInOrder p m rows
 order_of_none p m rows none =
     record {
       issued = λ q i e there. absurd (nothing_there (row rows q) i e (none q) there);

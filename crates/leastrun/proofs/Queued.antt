@@ -5,27 +5,27 @@ use Rattle.std.proofs.lemmas.Bool.{eqb-true}
 use Rattle.callorder.proofs.Lookups.{slice_get_of_append}
 use Rattle.semantics.specs.Machine.{Configuration, is_matched}
 use Rattle.races.proofs.Steps.{is_or_not}
-use Rattle.leastrun.specs.declared.rows.Rows.{Rows}
+use Rattle.leastrun.specs.declared.rows.SlotRows.{SlotRows}
 use Rattle.leastrun.specs.parts.Queues.{row, StandsIn, IsAdded, IsGrown, IsSkipped, IsPassed}
 use Rattle.leastrun.proofs.Entries.{get_front, get_behind, get_end, only_one, no_shorter}
 
 -- ---- a call is added
 
-row_added : (old new : Rows) (slot c q : ℕ) → IsAdded old new slot c → (row new q ≡ row old q ++ c ∷ []) ⊎ (row new q ≡ row old q)
+row_added : (old new : SlotRows) (slot c q : ℕ) → IsAdded old new slot c → (row new q ≡ row old q ++ c ∷ []) ⊎ (row new q ≡ row old q)
 row_added old new slot c q added =
     elim (is_or_not (slot == q)) [
       | inl same ↦ inl (subst (λ (z : ℕ). row new z ≡ row old z ++ c ∷ []) (eqb-true slot q same) added.here)
       | inr differ ↦ inr (added.elsewhere q differ)
     ]
 
-added_stays : (old new : Rows) (slot c : ℕ) → IsAdded old new slot c → (q i e : ℕ) → slice_get (row old q) i ≡ Some e → slice_get (row new q) i ≡ Some e
+added_stays : (old new : SlotRows) (slot c : ℕ) → IsAdded old new slot c → (q i e : ℕ) → slice_get (row old q) i ≡ Some e → slice_get (row new q) i ≡ Some e
 added_stays old new slot c added q i e there =
     elim (row_added old new slot c q added) [
       | inl more ↦ subst (λ (z : List ℕ). slice_get z i ≡ Some e) (sym more) (get_front (row old q) (c ∷ []) i e there)
       | inr same ↦ subst (λ (z : List ℕ). slice_get z i ≡ Some e) (sym same) there
     ]
 
-added_more : (old new : Rows) (slot c : ℕ) → IsAdded old new slot c → (q i e : ℕ) → slice_get (row new q) i ≡ Some e → (slice_get (row old q) i ≡ Some e) ⊎ ((length (row old q) ≤ i) × (e ≡ c))
+added_more : (old new : SlotRows) (slot c : ℕ) → IsAdded old new slot c → (q i e : ℕ) → slice_get (row new q) i ≡ Some e → (slice_get (row old q) i ≡ Some e) ⊎ ((length (row old q) ≤ i) × (e ≡ c))
 added_more old new slot c added q i e there =
     elim (row_added old new slot c q added) [
       | inl more ↦ elim (slice_get_of_append (row old q) (c ∷ []) i e (subst (λ (z : List ℕ). slice_get z i ≡ Some e) more there)) [
@@ -35,17 +35,17 @@ added_more old new slot c added q i e there =
       | inr same ↦ inl (subst (λ (z : List ℕ). slice_get z i ≡ Some e) same there)
     ]
 
-pub added_here : (old new : Rows) (slot c : ℕ) → IsAdded old new slot c → StandsIn new slot c
+pub added_here : (old new : SlotRows) (slot c : ℕ) → IsAdded old new slot c → StandsIn new slot c
 added_here old new slot c added =
     (length (row old slot), subst (λ (z : List ℕ). slice_get z (length (row old slot)) ≡ Some c) (sym added.here) (get_end (row old slot) c))
 
-pub added_there : (old new : Rows) (slot c q d : ℕ) → IsAdded old new slot c → StandsIn old q d → StandsIn new q d
+pub added_there : (old new : SlotRows) (slot c q d : ℕ) → IsAdded old new slot c → StandsIn old q d → StandsIn new q d
 added_there old new slot c q d added stands = (stands.0, added_stays old new slot c added q stands.0 d stands.1)
 
-pub grown_same : (rows : Rows) (c : ℕ) → IsGrown rows rows c
+pub grown_same : (rows : SlotRows) (c : ℕ) → IsGrown rows rows c
 grown_same rows c = record { stays = λ q i e there. there; more = λ q i e there. inl there }
 
-pub grown_more : (old rows new : Rows) (slot c : ℕ) → IsGrown old rows c → IsAdded rows new slot c → IsGrown old new c
+pub grown_more : (old rows new : SlotRows) (slot c : ℕ) → IsGrown old rows c → IsAdded rows new slot c → IsGrown old new c
 grown_more old rows new slot c grown added =
     record {
       stays = λ q i e there. added_stays rows new slot c added q i e (grown.stays q i e there);
@@ -55,7 +55,7 @@ grown_more old rows new slot c grown added =
       ];
     }
 
-pub grown_there : (old new : Rows) (c q d : ℕ) → IsGrown old new c → StandsIn old q d → StandsIn new q d
+pub grown_there : (old new : SlotRows) (c q d : ℕ) → IsGrown old new c → StandsIn old q d → StandsIn new q d
 grown_there old new c q d grown stands = (stands.0, grown.stays q stands.0 d stands.1)
 
 -- ---- a front is passed
@@ -77,10 +77,10 @@ skipped_more m old row new x skipped first matched = (
   ],
 )
 
-pub passed_same : (m : Configuration) (rows : Rows) → IsPassed m rows rows
+pub passed_same : (m : Configuration) (rows : SlotRows) → IsPassed m rows rows
 passed_same m rows = record { stays = λ q c free stands. stands; behind = λ q. (0, λ i e there. let same : 0 + i ≡ i = omega arith in subst (λ (z : ℕ). slice_get (row rows q) z ≡ Some e) (sym same) there) }
 
-pub passed_more : (m : Configuration) (old rows new : Rows) → IsPassed m old rows → IsPassed m rows new → IsPassed m old new
+pub passed_more : (m : Configuration) (old rows new : SlotRows) → IsPassed m old rows → IsPassed m rows new → IsPassed m old new
 passed_more m old rows new first second =
     record {
       stays = λ q c free stands. second.stays q c free (first.stays q c free stands);
@@ -107,7 +107,7 @@ skipped_behind m old new skipped = (
   λ i e there. subst (λ (z : List ℕ). slice_get z (length skipped.0 + i) ≡ Some e) (sym skipped.1) (get_behind skipped.0 new i e there),
 )
 
-passed_made : (m : Configuration) (old new : Rows) (slot : ℕ) → IsSkipped m (row old slot) (row new slot) → ((q : ℕ) → (slot == q) ≡ false → row new q ≡ row old q) → IsPassed m old new
+passed_made : (m : Configuration) (old new : SlotRows) (slot : ℕ) → IsSkipped m (row old slot) (row new slot) → ((q : ℕ) → (slot == q) ≡ false → row new q ≡ row old q) → IsPassed m old new
 passed_made m old new slot skipped elsewhere =
     record {
       stays = λ q c free stands. skipped_stays m (row old q) (row new q) c (each q) free stands;
@@ -121,7 +121,7 @@ passed_made m old new slot skipped elsewhere =
           | inr differ ↦ subst (λ (z : List ℕ). IsSkipped m (row old q) z) (sym (elsewhere q differ)) (skipped_none m (row old q))
         ]
 
-pub passed_at : (m : Configuration) (old new : Rows) (slot : ℕ) (was now : List ℕ) → row old slot ≡ was → row new slot ≡ now → IsSkipped m was now → ((q : ℕ) → (slot == q) ≡ false → row new q ≡ row old q) → IsPassed m old new
+pub passed_at : (m : Configuration) (old new : SlotRows) (slot : ℕ) (was now : List ℕ) → row old slot ≡ was → row new slot ≡ now → IsSkipped m was now → ((q : ℕ) → (slot == q) ≡ false → row new q ≡ row old q) → IsPassed m old new
 passed_at m old new slot was now before after skipped elsewhere =
     passed_made m old new slot (subst (λ (z : List ℕ). IsSkipped m z (row new slot)) (sym before) (subst (λ (z : List ℕ). IsSkipped m was z) (sym after) skipped)) elsewhere
 

@@ -9,8 +9,8 @@ use Rattle.callorder.specs.Programs.{MpiProgram, call_at, are_fit}
 use Rattle.semantics.specs.Configurations.{is_open_call}
 use Rattle.semantics.specs.Machine.{Configuration}
 use Rattle.races.proofs.Steps.{is_or_not, same_some, one_rank_back}
-use Rattle.leastrun.specs.declared.slot.Form.{Form}
-use Rattle.leastrun.specs.declared.rows.Rows.{Rows}
+use Rattle.leastrun.specs.declared.slot.PatternForm.{PatternForm}
+use Rattle.leastrun.specs.declared.rows.SlotRows.{SlotRows}
 use Rattle.leastrun.specs.declared.tables.Tables.{Tables}
 use Rattle.leastrun.specs.parts.Slots.{send_slot, finder_slot, form_of}
 use Rattle.leastrun.specs.parts.Queues.{row, StandsIn}
@@ -20,7 +20,7 @@ use Rattle.leastrun.proofs.Openings.{mate_made, mate_open, mate_fits}
 
 -- ---- the first mate in a row
 
-pub least_in : (p : MpiProgram) (m : Configuration) (rows : Rows) (q c x : ℕ) → AreInOrder p m rows → IsFirstMate p m (row rows q) c x → IsLeastIn p m rows q c x
+pub least_in : (p : MpiProgram) (m : Configuration) (rows : SlotRows) (q c x : ℕ) → AreInOrder p m rows → IsFirstMate p m (row rows q) c x → IsLeastIn p m rows q c x
 least_in p m rows q c x order found =
     record {
       mate = found.mate;
@@ -35,7 +35,7 @@ least_in p m rows q c x order found =
       ];
     }
 
-pub none_in : (p : MpiProgram) (m : Configuration) (rows : Rows) (q c : ℕ) → NoMateAmong p m (row rows q) c → NoMateIn p m rows q c
+pub none_in : (p : MpiProgram) (m : Configuration) (rows : SlotRows) (q c : ℕ) → NoMateAmong p m (row rows q) c → NoMateIn p m rows q c
 none_in p m rows q c none y mate stands =
     let off : is_mate p m c y ≡ false = none stands.0 y stands.1 in
     absurd (cc)
@@ -84,38 +84,38 @@ no_finder_slot p m c call here none y opened fit =
 -- ---- the finders that the fresh call fits
 
 -- the finder stands in the row of one of the first forms
-abbrev pub IsMet : List Form → Rows → Call → ℕ → ℕ → Type 0
-IsMet forms finders call upto y = (i q : ℕ) × (form : Form) × (i < upto) × (slice_get forms i ≡ Some form) × (send_slot form call ≡ Some q) × (StandsIn finders q y)
+abbrev pub IsMet : List PatternForm → SlotRows → Call → ℕ → ℕ → Type 0
+IsMet forms finders call upto y = (i q : ℕ) × (form : PatternForm) × (i < upto) × (slice_get forms i ≡ Some form) × (send_slot form call ≡ Some q) × (StandsIn finders q y)
 
 -- the earliest finder in these rows that the send fits
-pub record IsBestOf (p : MpiProgram) (m : Configuration) (forms : List Form) (finders : Rows) (call : Call) (c upto x : ℕ) : Type 0 where
+pub record IsBestOf (p : MpiProgram) (m : Configuration) (forms : List PatternForm) (finders : SlotRows) (call : Call) (c upto x : ℕ) : Type 0 where
   pub mate : is_mate p m c x ≡ true
   pub fit : are_fit p c x ≡ true
   pub least : (y : ℕ) → is_mate p m c y ≡ true → IsMet forms finders call upto y → x ≤ y
 
-abbrev pub IsBest : MpiProgram → Configuration → List Form → Rows → Call → ℕ → ℕ → Option ℕ → Type 0
+abbrev pub IsBest : MpiProgram → Configuration → List PatternForm → SlotRows → Call → ℕ → ℕ → Option ℕ → Type 0
 IsBest p m forms finders call c upto None = (y : ℕ) → is_mate p m c y ≡ true → IsMet forms finders call upto y → ⊥
 IsBest p m forms finders call c upto (Some x) = IsBestOf p m forms finders call c upto x
 
-met_cases : (forms : List Form) (finders : Rows) (call : Call) (place y q : ℕ) (form : Form) → slice_get forms place ≡ Some form → send_slot form call ≡ Some q → IsMet forms finders call (place + 1) y → IsMet forms finders call place y ⊎ StandsIn finders q y
+met_cases : (forms : List PatternForm) (finders : SlotRows) (call : Call) (place y q : ℕ) (form : PatternForm) → slice_get forms place ≡ Some form → send_slot form call ≡ Some q → IsMet forms finders call (place + 1) y → IsMet forms finders call place y ⊎ StandsIn finders q y
 met_cases forms finders call place y q form here slot met =
     elim (cases_eq met.0 place) [
       | inl same ↦
           let alike : met.2 ≡ form = same_form met.2 form (sym met.4 ∙ ap (slice_get forms) same ∙ here) in
-          let is : met.1 ≡ q = same_some met.1 q (sym met.5 ∙ ap (λ (z : Form). send_slot z call) alike ∙ slot) in
+          let is : met.1 ≡ q = same_some met.1 q (sym met.5 ∙ ap (λ (z : PatternForm). send_slot z call) alike ∙ slot) in
           inr (subst (λ (z : ℕ). StandsIn finders z y) is met.6)
       | inr differ ↦ inl (met.0, met.1, met.2, omega (arith, met.3, differ), met.4, met.5, met.6)
     ]
 
 -- a mate of a send is a finder that it fits
-send_mate : (p : MpiProgram) (m : Configuration) (form : Form) (c y q : ℕ) (call : Call) → call_at p c ≡ Some call → send_slot form call ≡ Some q → is_mate p m c y ≡ true → are_fit p c y ≡ true
+send_mate : (p : MpiProgram) (m : Configuration) (form : PatternForm) (c y q : ℕ) (call : Call) → call_at p c ≡ Some call → send_slot form call ≡ Some q → is_mate p m c y ≡ true → are_fit p c y ≡ true
 send_mate p m form c y q call here slot mate =
     elim (mate_fits p m c y mate) [
       | inl fits ↦ fits
       | inr fits ↦ absurd (send_fits p form c y q call here slot fits)
     ]
 
-module _ (p : MpiProgram) (m : Configuration) (forms : List Form) (finders : Rows) (call : Call) (c place q : ℕ) (form : Form) (known : call_at p c ≡ Some call) (here : slice_get forms place ≡ Some form) (slot : send_slot form call ≡ Some q) where
+module _ (p : MpiProgram) (m : Configuration) (forms : List PatternForm) (finders : SlotRows) (call : Call) (c place q : ℕ) (form : PatternForm) (known : call_at p c ≡ Some call) (here : slice_get forms place ≡ Some form) (slot : send_slot form call ≡ Some q) where
   new_least : (x y : ℕ) → IsLeastIn p m finders q c x → is_mate p m c y ≡ true → StandsIn finders q y → x ≤ y
   new_least x y found mate stands =
       found.least y mate stands (one_receiver p c x y (send_mate p m form c x q call known slot found.mate) (send_mate p m form c y q call known slot mate))
@@ -206,7 +206,7 @@ no_finder p m t c upto call None kept here all best =
 no_finder p m t c upto call (Some x) kept here all best = tt
 
 -- what isn't a send fits nothing
-pub no_send_form : (p : MpiProgram) (m : Configuration) (c : ℕ) (form : Form) (call : Call) → call_at p c ≡ Some call → send_slot form call ≡ None → NoFinder p m c
+pub no_send_form : (p : MpiProgram) (m : Configuration) (c : ℕ) (form : PatternForm) (call : Call) → call_at p c ≡ Some call → send_slot form call ≡ None → NoFinder p m c
 no_send_form p m c form call here none y opened fit =
     let a = fit_of p c y fit in
     let same : a.send ≡ call = same_at p c a.send call a.send_there here in

@@ -10,7 +10,7 @@ use Rattle.callorder.specs.declared.calls.Kind.TheVariants.{Wait}
 use Rattle.callorder.specs.Calls.{message_of, pattern_of, covers, fits_between, both_hold, fits}
 use Rattle.callorder.specs.Programs.{MpiProgram, call_at, are_fit, are_of_one_rank}
 use Rattle.races.proofs.Steps.{one_rank_made}
-use Rattle.leastrun.specs.declared.slot.Form.{Form}
+use Rattle.leastrun.specs.declared.slot.PatternForm.{PatternForm}
 use Rattle.leastrun.specs.parts.Slots.{named, slot_of, slot_of_message, slot_of_pattern, send_slot, finder_slot, form_of}
 
 named_covers : (wanted : Option ℕ) (number : ℕ) → covers wanted number ≡ true → named (is_some wanted) number ≡ wanted
@@ -80,7 +80,7 @@ fit_of p s f fit =
 same_call : (a b : Call) → ◌≡◌ {A = Option Call} (Some a) (Some b) → a ≡ b
 same_call a b e = cc
 
-pub same_form : (a b : Form) → ◌≡◌ {A = Option Form} (Some a) (Some b) → a ≡ b
+pub same_form : (a b : PatternForm) → ◌≡◌ {A = Option PatternForm} (Some a) (Some b) → a ≡ b
 same_form a b e = cc
 
 pub same_at : (p : MpiProgram) (c : ℕ) (a b : Call) → call_at p c ≡ Some a → call_at p c ≡ Some b → a ≡ b
@@ -115,14 +115,14 @@ one_receiver p c x y one other =
     (sym b.meet.there ∙ ap (λ (z : Message). z.destination) (sym own) ∙ a.meet.there)
 
 -- what has no slot in one form is no send
-no_message : (form other : Form) (rank : ℕ) (message : Option Message) → slot_of_message form rank message ≡ None → slot_of_message other rank message ≡ None
+no_message : (form other : PatternForm) (rank : ℕ) (message : Option Message) → slot_of_message form rank message ≡ None → slot_of_message other rank message ≡ None
 no_message form other rank None none = refl
 no_message form other rank (Some message) none = absurd (cc)
 
-pub no_send_slot : (form other : Form) (call : Call) → send_slot form call ≡ None → send_slot other call ≡ None
+pub no_send_slot : (form other : PatternForm) (call : Call) → send_slot form call ≡ None → send_slot other call ≡ None
 no_send_slot form other call none = no_message form other call.rank (message_of call.kind) none
 
-message_there : (form : Form) (rank q : ℕ) (message : Option Message) → slot_of_message form rank message ≡ Some q → (own : Message) × (message ≡ Some own)
+message_there : (form : PatternForm) (rank q : ℕ) (message : Option Message) → slot_of_message form rank message ≡ Some q → (own : Message) × (message ≡ Some own)
 message_there form rank q None there = absurd (cc)
 message_there form rank q (Some message) there = (message, refl)
 
@@ -131,7 +131,7 @@ pattern_there rank q None there = absurd (cc)
 pattern_there rank q (Some pattern) there = (pattern, refl)
 
 -- nothing fits a send
-pub send_fits : (p : MpiProgram) (form : Form) (c y q : ℕ) (call : Call) → call_at p c ≡ Some call → send_slot form call ≡ Some q → are_fit p y c ≡ true → ⊥
+pub send_fits : (p : MpiProgram) (form : PatternForm) (c y q : ℕ) (call : Call) → call_at p c ≡ Some call → send_slot form call ≡ Some q → are_fit p y c ≡ true → ⊥
 send_fits p form c y q call here slot fit =
     let a = fit_of p y c fit in
     let same : call ≡ a.finder = same_at p c call a.finder here a.finder_there in

@@ -12,9 +12,9 @@ use Rattle.semantics.specs.Machine.{Configuration, after, is_issued, is_issued_c
 use Rattle.semantics.proofs.Lengths.{Issues, issues, issued_grows, matched_grows}
 use Rattle.races.proofs.Steps.{is_or_not, next_is, now_issued, issued_within, one_rank, same_some}
 use Rattle.races.proofs.Passing.{issued_call_before}
-use Rattle.leastrun.specs.declared.rows.Rows.{Rows}
+use Rattle.leastrun.specs.declared.rows.SlotRows.{SlotRows}
 use Rattle.leastrun.specs.declared.tables.Tables.{Tables}
-use Rattle.leastrun.specs.declared.slot.Form.{Form}
+use Rattle.leastrun.specs.declared.slot.PatternForm.{PatternForm}
 use Rattle.leastrun.specs.parts.Slots.{HasForms}
 use Rattle.leastrun.specs.parts.Along.{IsAddedTo}
 use Rattle.leastrun.specs.parts.Queues.{row, StandsIn, IsGrown, IsPassed}
@@ -55,7 +55,7 @@ open_before_issue p m r b c w differ h =
     let parts = open_parts p (after m (Issue r b)) c h in
     open_made p m c (issued_before_issue p m r b c w differ parts.0) (free_before m (Issue r b) c parts.1)
 
-order_after : (p : MpiProgram) (m : Configuration) (rows : Rows) (step : Step) → AreInOrder p m rows → AreInOrder p (after m step) rows
+order_after : (p : MpiProgram) (m : Configuration) (rows : SlotRows) (step : Step) → AreInOrder p m rows → AreInOrder p (after m step) rows
 order_after p m rows step order =
     record {
       issued = λ q i e there. issued_grows p m step e (order.issued q i e there);
@@ -152,7 +152,7 @@ still_fresh buffering p m fresh (See s f) new next = fresh_by_find p m (See s f)
 
 -- ---- the fresh call waits
 
-pub order_grown : (p : MpiProgram) (m : Configuration) (old new : Rows) (c : ℕ) → is_issued p m c ≡ true → ((q i d : ℕ) → slice_get (row old q) i ≡ Some d → are_of_one_rank p d c ≡ true → d ≤ c) → IsGrown old new c → AreInOrder p m old → AreInOrder p m new
+pub order_grown : (p : MpiProgram) (m : Configuration) (old new : SlotRows) (c : ℕ) → is_issued p m c ≡ true → ((q i d : ℕ) → slice_get (row old q) i ≡ Some d → are_of_one_rank p d c ≡ true → d ≤ c) → IsGrown old new c → AreInOrder p m old → AreInOrder p m new
 order_grown p m old new c issued last grown order =
     record {
       issued = λ q i e there. elim (grown.more q i e there) [
@@ -182,7 +182,7 @@ pub kept_posted : (p : MpiProgram) (m : Configuration) (t new : Tables) (c : ℕ
 kept_posted p m t new c fresh kept added =
     record {
       all_forms = subst (HasForms p) (sym added.forms) kept.all_forms;
-      sent = λ d other opened old there. subst (λ (z : List Form). IsSendIn z new.sends other d) (sym added.forms) (sent_there d other opened there);
+      sent = λ d other opened old there. subst (λ (z : List PatternForm). IsSendIn z new.sends other d) (sym added.forms) (sent_there d other opened there);
       sought = λ d other opened old there q slot. elim (cases_eq c d) [
         | inl same ↦ subst (λ (z : ℕ). StandsIn new.finders q z) same (added.sought other (subst (λ (z : ℕ). call_at p z ≡ Some other) (sym same) there) q slot)
         | inr differ ↦ grown_there t.finders new.finders c q d added.finders (kept.sought d other opened (not_some c d differ) there q slot)
@@ -213,14 +213,14 @@ kept_closed p m t c kept closed =
 
 -- ---- what is matched is taken off
 
-order_passed : (p : MpiProgram) (m : Configuration) (old new : Rows) → IsPassed m old new → AreInOrder p m old → AreInOrder p m new
+order_passed : (p : MpiProgram) (m : Configuration) (old new : SlotRows) → IsPassed m old new → AreInOrder p m old → AreInOrder p m new
 order_passed p m old new passed order =
     record {
       issued = λ q i e there. let w = passed.behind q in order.issued q (w.0 + i) e (w.1 i e there);
       ordered = λ q i j d e first second below one. let w = passed.behind q in order.ordered q (w.0 + i) (w.0 + j) d e (w.1 i d first) (w.1 j e second) (omega (arith, below)) one;
     }
 
-pub kept_passed : (p : MpiProgram) (m : Configuration) (fresh : Option ℕ) (t : Tables) (sends finders : Rows) → IsPassed m t.sends sends → IsPassed m t.finders finders → IsKept p fresh m t → IsKept p fresh m (record t { sends = sends; finders = finders })
+pub kept_passed : (p : MpiProgram) (m : Configuration) (fresh : Option ℕ) (t : Tables) (sends finders : SlotRows) → IsPassed m t.sends sends → IsPassed m t.finders finders → IsKept p fresh m t → IsKept p fresh m (record t { sends = sends; finders = finders })
 kept_passed p m fresh t sends finders one other kept =
     record {
       all_forms = kept.all_forms;

@@ -13,8 +13,8 @@ use Rattle.callorder.specs.Calls.{holds_of, fits}
 use Rattle.races.proofs.Passing.{none_issued}
 use Rattle.races.proofs.Steps.{same_some}
 use Rattle.races.proofs.Telling.{programs_are_in_order}
-use Rattle.leastrun.specs.declared.rows.Rows.{Rows}
-use Rattle.leastrun.specs.declared.slot.Form.{Form}
+use Rattle.leastrun.specs.declared.rows.SlotRows.{SlotRows}
+use Rattle.leastrun.specs.declared.slot.PatternForm.{PatternForm}
 use Rattle.leastrun.specs.declared.tables.Tables.{Tables}
 use Rattle.leastrun.specs.parts.Slots.{HasForms}
 use Rattle.leastrun.specs.parts.Queues.{row, StandsIn, IsGrown}
@@ -26,7 +26,7 @@ use Rattle.leastrun.proofs.Queued.{grown_there}
 use Rattle.leastrun.proofs.Taking.{order_grown}
 
 -- what stands in the rows comes before each of the calls from this place on
-abbrev pub StandBefore : Rows → List ℕ → ℕ → Type 0
+abbrev pub StandBefore : SlotRows → List ℕ → ℕ → Type 0
 StandBefore rows calls place = (q i e j c : ℕ) → slice_get (row rows q) i ≡ Some e → place ≤ j → slice_get calls j ≡ Some c → e ≤ c
 
 -- the calls before this place wait
@@ -41,10 +41,10 @@ pub record ArePosted (p : MpiProgram) (m : Configuration) (calls : List ℕ) (pl
 
 -- ---- none yet
 
-nothing_stands : (p : MpiProgram) (rows : Rows) (q i e : ℕ) → IsProgramWithin long p → AreInOrder p (opening p) rows → slice_get (row rows q) i ≡ Some e → ⊥
+nothing_stands : (p : MpiProgram) (rows : SlotRows) (q i e : ℕ) → IsProgramWithin long p → AreInOrder p (opening p) rows → slice_get (row rows q) i ≡ Some e → ⊥
 nothing_stands p rows q i e is order there = none_issued p e (programs_are_in_order long p is).0 (order.issued q i e there)
 
-order_of_nothing : (p : MpiProgram) (m : Configuration) (rows : Rows) → IsProgramWithin long p → AreInOrder p (opening p) rows → AreInOrder p m rows
+order_of_nothing : (p : MpiProgram) (m : Configuration) (rows : SlotRows) → IsProgramWithin long p → AreInOrder p (opening p) rows → AreInOrder p m rows
 order_of_nothing p m rows is order =
     record {
       issued = λ q i e there. absurd (nothing_stands p rows q i e is order there);
@@ -65,7 +65,7 @@ none_posted p m calls t is kept =
 
 -- ---- one more
 
-before_more : (old new : Rows) (calls : List ℕ) (place c : ℕ) → IsGrown old new c → slice_get calls place ≡ Some c → ((i j d e : ℕ) → i < j → slice_get calls i ≡ Some d → slice_get calls j ≡ Some e → d ≤ e) → StandBefore old calls place → StandBefore new calls (place + 1)
+before_more : (old new : SlotRows) (calls : List ℕ) (place c : ℕ) → IsGrown old new c → slice_get calls place ≡ Some c → ((i j d e : ℕ) → i < j → slice_get calls i ≡ Some d → slice_get calls j ≡ Some e → d ≤ e) → StandBefore old calls place → StandBefore new calls (place + 1)
 before_more old new calls place c grown here rise before q i e j d there above listed =
     elim (grown.more q i e there) [
       | inl was ↦ before q i e j d was (omega (arith, above)) listed
@@ -79,7 +79,7 @@ posted_more p m calls place t new c opens posted here added =
     let issued : is_issued p m c ≡ true = (open_parts p m c (opens.are place c here)).0 in
     record {
       all_forms = subst (HasForms p) (sym added.forms) posted.all_forms;
-      sent = λ i d call low listed there. subst (λ (z : List Form). IsSendIn z new.sends call d) (sym added.forms) (sent_there i d call low listed there);
+      sent = λ i d call low listed there. subst (λ (z : List PatternForm). IsSendIn z new.sends call d) (sym added.forms) (sent_there i d call low listed there);
       sought = λ i d call low listed there q slot. elim (cases_eq i place) [
         | inl same ↦
             let is : c ≡ d = the_call i d same listed in

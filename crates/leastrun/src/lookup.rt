@@ -4,7 +4,7 @@ ghost use Rattle.std.specs.Prelude.{◌≡◌, ℕ, IfSome, IfNone, Some};
 ghost use Rattle.callorder.specs.Programs.{call_at};
 ghost use Rattle.leastrun.specs.parts.Waiting.{IsKept, IsFresh, AreInOrder, is_mate, IsFirstMate, NoMateAmong, IsLeastIn, NoMateIn, lesser, IsLeastMate, NoFinder, NoSend, NoMate, step_between, NoOpenPair, IsFind};
 
-use crate::rows::Rows;
+use crate::rows::SlotRows;
 use crate::slot::{finder_slot, send_slot};
 use crate::tables::Tables;
 use callorder::{Call, LongProgram};
@@ -41,7 +41,7 @@ fn first_mate(
 fn mate_in(
     program: &LongProgram,
     state: &State,
-    rows: &Rows,
+    rows: &SlotRows,
     slot: u64,
     call: usize,
 ) -> Option<usize>

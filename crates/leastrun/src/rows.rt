@@ -10,7 +10,7 @@ use std::collections::{HashMap, VecDeque};
 
 /// For each slot in which calls wait, a row of them.
 #[derive(Drop)]
-pub struct Rows {
+pub struct SlotRows {
     alloc: Global,
     rows: HashMap<u64, VecDeque<usize>>,
 }
@@ -30,12 +30,12 @@ fn skip(state: &State, row: &mut VecDeque<usize>)
     }
 }
 
-impl Rows {
+impl SlotRows {
     /// No call waits in any slot.
-    pub fn new(alloc: Global) -> Rows
+    pub fn new(alloc: Global) -> SlotRows
         ensures { (slot : ℕ) → row result slot ≡ [] }
     {
-        Rows {
+        SlotRows {
             alloc,
             rows: HashMap::new(alloc),
         }

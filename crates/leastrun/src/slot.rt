@@ -11,7 +11,7 @@ use std::alloc::{AllocError, Global};
 
 /// Which of its source and its tag a pattern names.
 #[derive(Clone, Copy)]
-pub struct Form {
+pub struct PatternForm {
     /// Whether it names its source.
     pub source: bool,
     /// Whether it names its tag.
@@ -53,7 +53,7 @@ fn named(names: bool, number: u32) -> Option<u32>
 }
 
 /// The slot of a send in this form, and `None` for another call.
-pub fn send_slot(form: Form, call: &Call) -> Option<u64>
+pub fn send_slot(form: PatternForm, call: &Call) -> Option<u64>
     ensures { result ≡ send_slot form call.now }
 {
     let Some(message) = call.kind.message() else {
@@ -75,17 +75,17 @@ pub fn finder_slot(call: &Call) -> Option<u64>
 }
 
 /// Which of its source and its tag this pattern names.
-fn form_of(pattern: Pattern) -> Form
+fn form_of(pattern: Pattern) -> PatternForm
     ensures { result ≡ form_of pattern }
 {
-    Form {
+    PatternForm {
         source: pattern.source.is_some(),
         tag: pattern.tag.is_some(),
     }
 }
 
 /// Whether the form is listed.
-fn is_listed(forms: &[Form], form: Form) -> bool
+fn is_listed(forms: &[PatternForm], form: PatternForm) -> bool
     ensures { result ≡ true → Lists forms.now form }
 {
     for place in 0..forms.len() {
@@ -98,7 +98,7 @@ fn is_listed(forms: &[Form], form: Form) -> bool
 }
 
 /// Lists the form of a finder, unless it is listed. The only error is want of memory.
-fn list(forms: &mut Vec<Form>, call: &Call) -> Result<(), AllocError>
+fn list(forms: &mut Vec<PatternForm>, call: &Call) -> Result<(), AllocError>
     ensures { OnOk result (ListsMore forms.old.items forms.new.items (pattern_of call.now.kind)) }
 {
     let Some(pattern) = call.kind.pattern() else {
@@ -113,7 +113,7 @@ fn list(forms: &mut Vec<Form>, call: &Call) -> Result<(), AllocError>
 }
 
 /// The forms of the program's finders. The only error is want of memory.
-pub fn forms_of(alloc: Global, program: &LongProgram) -> Result<Vec<Form>, AllocError>
+pub fn forms_of(alloc: Global, program: &LongProgram) -> Result<Vec<PatternForm>, AllocError>
     ensures { IfOk result (λ forms. HasForms program.now forms.items) }
 {
     let calls = program.calls();

@@ -6,8 +6,8 @@ ghost use Rattle.leastrun.specs.parts.Along.{AreOpenCalls, IsAddedTo};
 ghost use Rattle.leastrun.specs.parts.Queues.{IsGrown, IsPassed};
 ghost use Rattle.leastrun.specs.parts.Waiting.{IsSendIn, IsFinderIn, IsKept, IsFresh};
 
-use crate::rows::Rows;
-use crate::slot::{Form, finder_slot, forms_of, send_slot};
+use crate::rows::SlotRows;
+use crate::slot::{PatternForm, finder_slot, forms_of, send_slot};
 use callorder::{Call, LongProgram};
 use semantics::State;
 use std::alloc::{AllocError, Global};
@@ -17,15 +17,15 @@ use std::alloc::{AllocError, Global};
 #[derive(Drop)]
 pub struct Tables {
     /// The forms of the program's finders.
-    pub forms: Vec<Form>,
+    pub forms: Vec<PatternForm>,
     /// The sends that wait.
-    pub sends: Rows,
+    pub sends: SlotRows,
     /// The finders that wait.
-    pub finders: Rows,
+    pub finders: SlotRows,
 }
 
 /// Adds a send to its rows, and leaves other calls out. The only error is want of memory.
-fn add_send(forms: &[Form], sends: &mut Rows, known: &Call, call: usize) -> Result<(), AllocError>
+fn add_send(forms: &[PatternForm], sends: &mut SlotRows, known: &Call, call: usize) -> Result<(), AllocError>
     ensures grown { OnOk result (IsGrown sends.old sends.new call) }
     ensures there { OnOk result (IsSendIn forms.now sends.new known.now call) }
 {
@@ -39,7 +39,7 @@ fn add_send(forms: &[Form], sends: &mut Rows, known: &Call, call: usize) -> Resu
 }
 
 /// Adds a finder to its row, and leaves other calls out. The only error is want of memory.
-fn add_finder(finders: &mut Rows, known: &Call, call: usize) -> Result<(), AllocError>
+fn add_finder(finders: &mut SlotRows, known: &Call, call: usize) -> Result<(), AllocError>
     ensures grown { OnOk result (IsGrown finders.old finders.new call) }
     ensures there { OnOk result (IsFinderIn finders.new known.now call) }
 {
@@ -50,7 +50,7 @@ fn add_finder(finders: &mut Rows, known: &Call, call: usize) -> Result<(), Alloc
 }
 
 /// Takes off a send's rows what is matched at their fronts.
-fn pass_send(forms: &[Form], sends: &mut Rows, state: &State, known: &Call)
+fn pass_send(forms: &[PatternForm], sends: &mut SlotRows, state: &State, known: &Call)
     ensures { IsPassed state.now sends.old sends.new }
 {
     for place in 0..forms.len() {
@@ -62,7 +62,7 @@ fn pass_send(forms: &[Form], sends: &mut Rows, state: &State, known: &Call)
 }
 
 /// Takes off a finder's row what is matched at its front.
-fn pass_finder(finders: &mut Rows, state: &State, known: &Call)
+fn pass_finder(finders: &mut SlotRows, state: &State, known: &Call)
     ensures { IsPassed state.now finders.old finders.new }
 {
     let Some(slot) = finder_slot(known) else {
@@ -80,8 +80,8 @@ impl Tables {
         let forms = forms_of(alloc, program)?;
         Ok(Tables {
             forms,
-            sends: Rows::new(alloc),
-            finders: Rows::new(alloc),
+            sends: SlotRows::new(alloc),
+            finders: SlotRows::new(alloc),
         })
     }
 

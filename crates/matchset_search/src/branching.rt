@@ -4,7 +4,7 @@ ghost use Rattle.std.specs.Prelude.{◌≤◌, vec_len};
 
 use crate::explorer::Explorer;
 use crate::tasks::{Branch, Branching, Purpose, Task};
-use matchsets::{Key, State, choose, mixed, read_off};
+use matchsets::{Key, MatchState, choose, mixed, read_off};
 use propagation::LitIndex;
 use refutations::Batch;
 use std::alloc::{AllocError, Global};
@@ -35,7 +35,7 @@ enum Below {
     /// Lemmas that were made, with the trail at level 0.
     Lemmas,
     /// This state.
-    State(State),
+    MatchState(MatchState),
 }
 
 impl<'e> Explorer<'e> {
@@ -44,7 +44,7 @@ impl<'e> Explorer<'e> {
     pub(crate) fn visit(
         &mut self,
         alloc: Global,
-        state: State,
+        state: MatchState,
         is_last: bool,
         batch: &mut Batch,
     ) -> Result<(), AllocError> {
@@ -60,7 +60,7 @@ impl<'e> Explorer<'e> {
     fn visit_unknown(
         &mut self,
         alloc: Global,
-        state: State,
+        state: MatchState,
         key: Key,
         is_last: bool,
         batch: &mut Batch,
@@ -82,7 +82,7 @@ impl<'e> Explorer<'e> {
     fn visit_open(
         &mut self,
         alloc: Global,
-        state: State,
+        state: MatchState,
         key: Key,
         assumptions: Vec<LitIndex>,
         batch: &mut Batch,
@@ -102,7 +102,7 @@ impl<'e> Explorer<'e> {
     fn visit_read(
         &mut self,
         alloc: Global,
-        read: State,
+        read: MatchState,
         key: Key,
         assumptions: Vec<LitIndex>,
         batch: &mut Batch,
@@ -119,14 +119,14 @@ impl<'e> Explorer<'e> {
     fn expand(
         &mut self,
         alloc: Global,
-        state: State,
+        state: MatchState,
         key: Key,
         assumptions: Vec<LitIndex>,
         batch: &mut Batch,
     ) -> Result<(), AllocError> {
         let literals = choose(alloc, &self.shape, self.engine.known.trail(), &state)?;
         if literals.is_empty() {
-            return self.push(Task::Learn(assumptions, Purpose::State(key)));
+            return self.push(Task::Learn(assumptions, Purpose::MatchState(key)));
         }
         let mut branches = Vec::new(alloc);
         let mut states = Vec::new(alloc);
@@ -154,7 +154,7 @@ impl<'e> Explorer<'e> {
     /// Has these states closed: from one on that the turn tells, in the order of a round, where
     /// there are many. Of two the first one often closes the second, too, but not the other way
     /// round.
-    fn visit_all(&mut self, mut states: Vec<State>, first: usize) -> Result<(), AllocError>
+    fn visit_all(&mut self, mut states: Vec<MatchState>, first: usize) -> Result<(), AllocError>
         requires { first ≤ vec_len states }
     {
         if states.len() > 2 {
@@ -170,7 +170,7 @@ impl<'e> Explorer<'e> {
     fn below(
         &mut self,
         alloc: Global,
-        state: &State,
+        state: &MatchState,
         literal: LitIndex,
         is_settled: bool,
         batch: &mut Batch,
@@ -187,7 +187,7 @@ impl<'e> Explorer<'e> {
         }
         let below = read_off(alloc, &self.shape, self.engine.known.trail(), state)?;
         self.engine.known.back(level);
-        Ok(Below::State(below))
+        Ok(Below::MatchState(below))
     }
 
     /// The same once no lemma is due there, unless that takes too many lines or rounds, or lemmas
@@ -195,7 +195,7 @@ impl<'e> Explorer<'e> {
     fn below_lemmas(
         &mut self,
         alloc: Global,
-        state: &State,
+        state: &MatchState,
         assumptions: &[LitIndex],
         literal: LitIndex,
         is_settled: &mut bool,
@@ -218,11 +218,11 @@ impl<'e> Explorer<'e> {
     fn look_below(
         &mut self,
         alloc: Global,
-        state: &State,
+        state: &MatchState,
         assumptions: &[LitIndex],
         literals: &[LitIndex],
         branches: &mut Vec<Branch>,
-        states: &mut Vec<State>,
+        states: &mut Vec<MatchState>,
         batch: &mut Batch,
     ) -> Result<bool, AllocError> {
         let mut is_settled = true;
@@ -237,7 +237,7 @@ impl<'e> Explorer<'e> {
             )? {
                 Below::Lemmas => return Ok(true),
                 Below::Conflict => None,
-                Below::State(below) => {
+                Below::MatchState(below) => {
                     let key = below.key();
                     states.push(below)?;
                     Some(key)

@@ -9,7 +9,7 @@ use crate::tasks::Task;
 use cdcl::Solver;
 use clauses::Clause;
 use encode::Encoded;
-use matchsets::{Shape, State, find_cycle, read_off};
+use matchsets::{Shape, MatchState, find_cycle, read_off};
 use propagation::{ClauseRef, LitIndex, Origin, indices_of};
 use refutations::Batch;
 use std::alloc::{AllocError, Global};
@@ -232,7 +232,7 @@ impl<'e> Explorer<'e> {
         if self.makes_lemmas(alloc, None, batch)? {
             return self.push(Task::Start);
         }
-        let nothing = State::new(alloc, &self.shape)?;
+        let nothing = MatchState::new(alloc, &self.shape)?;
         let state = read_off(alloc, &self.shape, self.engine.known.trail(), &nothing)?;
         let again = read_off(alloc, &self.shape, self.engine.known.trail(), &nothing)?;
         self.push(Task::End(state))?;

@@ -8,10 +8,10 @@ use crate::explorer::Explorer;
 use crate::learning::Learning;
 use crate::models::checked;
 use crate::tasks::{Purpose, Task};
-use cdcl::{Counted, Ending, Step};
+use cdcl::{Counted, Ending, SearchStep};
 use clauses::Formula;
 use encode::Encoded;
-use matchsets::State;
+use matchsets::MatchState;
 use propagation::{ClauseRef, LitIndex, Origin};
 use refutations::{Batch, Hint};
 use std::alloc::{AllocError, Global};
@@ -47,16 +47,16 @@ impl<'e> Explorer<'e> {
         formula: &Formula,
         origin: Origin,
         purpose: Purpose,
-    ) -> Step
+    ) -> SearchStep
         ensures budget { IfEnded IsNotBudget result }
         ensures right { IfEnded (IsRight formula.now []) result }
     {
         if let Purpose::Formula = &purpose {
-            return Step::Ended(Ending::Closed(origin.hint()));
+            return SearchStep::Ended(Ending::Closed(origin.hint()));
         }
         match self.use_clause(alloc, formula, origin, purpose) {
-            Ok(()) => Step::Going,
-            Err(_) => Step::Ended(Ending::Memory),
+            Ok(()) => SearchStep::Going,
+            Err(_) => SearchStep::Ended(Ending::Memory),
         }
     }
 
@@ -69,20 +69,20 @@ impl<'e> Explorer<'e> {
         purpose: Purpose,
         budget: u64,
         batch: &mut Batch,
-    ) -> Step
+    ) -> SearchStep
         ensures budget { IfEnded IsNotBudget result }
         ensures right { IfEnded (IsRight formula.now []) result }
     {
         match self.learn(alloc, formula, &literals, budget, batch) {
-            Err(_) => Step::Ended(Ending::Memory),
+            Err(_) => SearchStep::Ended(Ending::Memory),
             Ok(Learning::Clause(origin)) => self.go_on_by(alloc, formula, origin, purpose),
             Ok(Learning::Model(assignment)) => match checked(formula, assignment) {
-                Some(assignment) => Step::Ended(Ending::Model(assignment)),
-                None => Step::Ended(Ending::Memory),
+                Some(assignment) => SearchStep::Ended(Ending::Model(assignment)),
+                None => SearchStep::Ended(Ending::Memory),
             },
             Ok(Learning::Budget) => match self.push(Task::Learn(literals, purpose)) {
-                Ok(()) => Step::Spent,
-                Err(_) => Step::Ended(Ending::Memory),
+                Ok(()) => SearchStep::Spent,
+                Err(_) => SearchStep::Ended(Ending::Memory),
             },
         }
     }
@@ -109,14 +109,14 @@ impl<'e> Explorer<'e> {
         formula: &Formula,
         conflict: ClauseRef,
         batch: &mut Batch,
-    ) -> Step
+    ) -> SearchStep
         ensures budget { IfEnded IsNotBudget result }
         ensures right { IfEnded (IsRight formula.now []) result }
     {
         match self.close_root(alloc, conflict, batch) {
-            Ok(Some(last)) => Step::Ended(Ending::Closed(last)),
-            Ok(None) => Step::Spent,
-            Err(_) => Step::Ended(Ending::Memory),
+            Ok(Some(last)) => SearchStep::Ended(Ending::Closed(last)),
+            Ok(None) => SearchStep::Spent,
+            Err(_) => SearchStep::Ended(Ending::Memory),
         }
     }
 
@@ -125,7 +125,7 @@ impl<'e> Explorer<'e> {
     fn close_first(
         &mut self,
         alloc: Global,
-        state: &State,
+        state: &MatchState,
         batch: &mut Batch,
     ) -> Result<Option<Hint>, AllocError> {
         let assumptions = state.assumptions(alloc, &self.shape)?;
@@ -150,19 +150,19 @@ impl<'e> Explorer<'e> {
         &mut self,
         alloc: Global,
         formula: &Formula,
-        state: &State,
+        state: &MatchState,
         batch: &mut Batch,
-    ) -> Step
+    ) -> SearchStep
         ensures budget { IfEnded IsNotBudget result }
         ensures right { IfEnded (IsRight formula.now []) result }
     {
         match self.close_first(alloc, state, batch) {
-            Ok(Some(last)) => Step::Ended(Ending::Closed(last)),
+            Ok(Some(last)) => SearchStep::Ended(Ending::Closed(last)),
             Ok(None) => match self.push(Task::Learn(Vec::new(alloc), Purpose::Formula)) {
-                Ok(()) => Step::Going,
-                Err(_) => Step::Ended(Ending::Memory),
+                Ok(()) => SearchStep::Going,
+                Err(_) => SearchStep::Ended(Ending::Memory),
             },
-            Err(_) => Step::Ended(Ending::Memory),
+            Err(_) => SearchStep::Ended(Ending::Memory),
         }
     }
 
@@ -189,7 +189,7 @@ impl<'e> Explorer<'e> {
         formula: &'e Formula,
         budget: u64,
         batch: &mut Batch,
-    ) -> Step
+    ) -> SearchStep
         ensures budget { IfEnded IsNotBudget result }
         ensures right { IfEnded (IsRight formula.now []) result }
     {
@@ -199,14 +199,14 @@ impl<'e> Explorer<'e> {
             }
             Some(Task::End(state)) => self.take_end(alloc, formula, &state, batch),
             task => match self.take_other(alloc, task, batch) {
-                Ok(()) => Step::Going,
-                Err(_) => Step::Ended(Ending::Memory),
+                Ok(()) => SearchStep::Going,
+                Err(_) => SearchStep::Ended(Ending::Memory),
             },
         }
     }
 
     /// One step.
-    fn step(&mut self, alloc: Global, formula: &'e Formula, budget: u64, batch: &mut Batch) -> Step
+    fn step(&mut self, alloc: Global, formula: &'e Formula, budget: u64, batch: &mut Batch) -> SearchStep
         ensures budget { IfEnded IsNotBudget result }
         ensures right { IfEnded (IsRight formula.now []) result }
     {
@@ -236,12 +236,12 @@ impl<'e> Explorer<'e> {
             let lines = line_count(batch).saturating_sub(before);
             counted = counted.saturating_add(lines);
             match step {
-                Step::Going if counted < budget => {}
-                Step::Ended(ending) => {
+                SearchStep::Going if counted < budget => {}
+                SearchStep::Ended(ending) => {
                     let conflicts = sum_within(counted, 0, budget);
                     return Counted { ending, conflicts };
                 }
-                Step::Last(ending) => {
+                SearchStep::Last(ending) => {
                     let conflicts = sum_within(counted, 1, budget);
                     return Counted { ending, conflicts };
                 }

@@ -1,7 +1,7 @@
 //! What is left to do.
 
 use crate::explorer::Explorer;
-use matchsets::{Key, State};
+use matchsets::{Key, MatchState};
 use propagation::{ClauseRef, LitIndex};
 use std::alloc::AllocError;
 
@@ -27,7 +27,7 @@ pub(crate) struct Branching {
 #[derive(Drop)]
 pub(crate) enum Purpose {
     /// It closes the state with this key.
-    State(Key),
+    MatchState(Key),
     /// It is against the literal at this place of the branching that is finished next.
     Literal(usize),
     /// It closes the search.
@@ -40,10 +40,10 @@ pub(crate) enum Task {
     /// To begin.
     Start,
     /// To close this state.
-    Visit(State),
+    Visit(MatchState),
     /// The same where another search was closing it, once nothing else is left to do below the same
     /// state.
-    VisitLast(State),
+    VisitLast(MatchState),
     /// To close the first state by what closes the second.
     Alias(Key, Key),
     /// To close a state below whose literals all states are closed.
@@ -51,7 +51,7 @@ pub(crate) enum Task {
     /// To learn a clause of negations of these literals.
     Learn(Vec<LitIndex>, Purpose),
     /// To close the search, now that this first state is closed.
-    End(State),
+    End(MatchState),
 }
 
 impl Task {
@@ -64,7 +64,7 @@ impl Task {
     pub(crate) fn closing(&self) -> Option<(Key, &[LitIndex])> {
         match self {
             Task::Finish(branching) => { Some((branching.key, branching.assumptions.as_slice())) }
-            Task::Learn(literals, Purpose::State(key)) => Some((*key, literals.as_slice())),
+            Task::Learn(literals, Purpose::MatchState(key)) => Some((*key, literals.as_slice())),
             _ => None,
         }
     }
@@ -90,7 +90,7 @@ impl<'e> Explorer<'e> {
     }
 
     /// Puts the state behind all others that are to be closed below the same one.
-    pub(crate) fn put_last(&mut self, state: State) -> Result<(), AllocError> {
+    pub(crate) fn put_last(&mut self, state: MatchState) -> Result<(), AllocError> {
         let place = self.tasks.len().saturating_sub(self.visits());
         self.tasks.insert(place, Task::VisitLast(state))?;
         Ok(())

@@ -1,7 +1,7 @@
 //! On what a state is branched.
 
 use crate::shape::{CallShape, Role, Shape};
-use crate::state::State;
+use crate::state::MatchState;
 use callorder::Policy;
 use formula::Condition;
 use propagation::{LitIndex, Trail};
@@ -120,7 +120,7 @@ fn due_send(shape: &Shape<'_>, trail: &Trail, call: usize) -> Option<Due> {
     })
 }
 
-fn due_call(shape: &Shape<'_>, trail: &Trail, state: &State, call: usize) -> Option<Due> {
+fn due_call(shape: &Shape<'_>, trail: &Trail, state: &MatchState, call: usize) -> Option<Due> {
     if state.is_matched(call) {
         return None;
     }
@@ -139,7 +139,7 @@ fn better(best: Option<Due>, due: Due) -> Due {
 }
 
 /// The call that is matched next.
-fn most_due(shape: &Shape<'_>, trail: &Trail, state: &State) -> Option<usize> {
+fn most_due(shape: &Shape<'_>, trail: &Trail, state: &MatchState) -> Option<usize> {
     let mut best = None;
     for call in 0..shape.calls().len() {
         if let Some(due) = due_call(shape, trail, state, call) {
@@ -193,7 +193,7 @@ fn open_wait(shape: &Shape<'_>, trail: &Trail, place: usize) -> Option<LitIndex>
     open_issue(shape, trail, send.waiter)
 }
 
-fn first_wait(shape: &Shape<'_>, trail: &Trail, state: &State) -> Option<LitIndex> {
+fn first_wait(shape: &Shape<'_>, trail: &Trail, state: &MatchState) -> Option<LitIndex> {
     for place in &state.unsettled {
         let wait = open_wait(shape, trail, *place);
         if wait.is_some() {
@@ -204,7 +204,7 @@ fn first_wait(shape: &Shape<'_>, trail: &Trail, state: &State) -> Option<LitInde
 }
 
 /// The literal that the rank goes on after a standard send, where that is open.
-fn going_on(shape: &Shape<'_>, trail: &Trail, state: &State, rank: usize) -> Option<LitIndex> {
+fn going_on(shape: &Shape<'_>, trail: &Trail, state: &MatchState, rank: usize) -> Option<LitIndex> {
     let progress = state.rank(rank);
     if progress.issued == 0 || progress.is_finished {
         return None;
@@ -217,7 +217,7 @@ fn going_on(shape: &Shape<'_>, trail: &Trail, state: &State, rank: usize) -> Opt
     }
 }
 
-fn first_going_on(shape: &Shape<'_>, trail: &Trail, state: &State) -> Option<LitIndex> {
+fn first_going_on(shape: &Shape<'_>, trail: &Trail, state: &MatchState) -> Option<LitIndex> {
     if shape.policy != Policy::Any {
         return None;
     }
@@ -241,7 +241,7 @@ pub fn choose(
     alloc: Global,
     shape: &Shape<'_>,
     trail: &Trail,
-    state: &State,
+    state: &MatchState,
 ) -> Result<Vec<LitIndex>, AllocError> {
     if let Some(literal) = first_wait(shape, trail, state) {
         return two(alloc, literal, literal.negated());

@@ -22,4 +22,4 @@ pub use cycles::{Cycle, find_cycle};
 pub use key::{Key, mixed};
 pub use reading::read_off;
 pub use shape::{PairShape, Shape};
-pub use state::State;
+pub use state::MatchState;

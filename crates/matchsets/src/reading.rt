@@ -2,7 +2,7 @@
 
 use crate::reality::which_are_real;
 use crate::shape::{CallShape, PairShape, RankShape, Role, Shape};
-use crate::state::{Progress, State, ends_at};
+use crate::state::{Progress, MatchState, ends_at};
 use callorder::Policy;
 use propagation::Trail;
 use std::alloc::{AllocError, Global};
@@ -65,7 +65,7 @@ fn all_progress(
     alloc: Global,
     shape: &Shape<'_>,
     trail: &Trail,
-    before: &State,
+    before: &MatchState,
 ) -> Result<Vec<Progress>, AllocError> {
     let mut ranks = Vec::with_capacity(alloc, before.ranks.len())?;
     for (rank, progress_before) in shape.ranks().iter().zip(&before.ranks) {
@@ -75,7 +75,7 @@ fn all_progress(
 }
 
 /// Whether the partner is forgotten of that call of the pair which has just one.
-fn is_forgotten(shape: &Shape<'_>, state: &State, pair: &PairShape) -> bool {
+fn is_forgotten(shape: &Shape<'_>, state: &MatchState, pair: &PairShape) -> bool {
     if shape.is_probe(pair.taker) {
         return state.is_matched(pair.taker);
     }
@@ -87,7 +87,7 @@ fn matched(
     alloc: Global,
     shape: &Shape<'_>,
     trail: &Trail,
-    state: &State,
+    state: &MatchState,
 ) -> Result<Vec<usize>, AllocError> {
     let mut places = Vec::new(alloc);
     for (place, pair) in shape.matches().iter().enumerate() {
@@ -99,7 +99,7 @@ fn matched(
 }
 
 /// Takes in that a call which is known never to be issued isn't.
-fn cut(shape: &Shape<'_>, trail: &Trail, state: &mut State, call: Option<usize>) {
+fn cut(shape: &Shape<'_>, trail: &Trail, state: &mut MatchState, call: Option<usize>) {
     let Some(call) = call else {
         return;
     };
@@ -113,7 +113,7 @@ fn cut(shape: &Shape<'_>, trail: &Trail, state: &mut State, call: Option<usize>)
 }
 
 /// Whether the receive on the taker's handle is known never to be issued.
-fn is_never_fetched(shape: &Shape<'_>, state: &State, taker: &CallShape) -> bool {
+fn is_never_fetched(shape: &Shape<'_>, state: &MatchState, taker: &CallShape) -> bool {
     match taker.receive {
         Some(receive) => state.is_never(&shape.call(receive)),
         None => false,
@@ -122,7 +122,7 @@ fn is_never_fetched(shape: &Shape<'_>, state: &State, taker: &CallShape) -> bool
 
 /// Whether nothing rests any more on the partner by which the send returns: one that is never
 /// fetched lets nobody go on.
-fn is_closed_send(shape: &Shape<'_>, state: &State, send: &CallShape, taker: &CallShape) -> bool {
+fn is_closed_send(shape: &Shape<'_>, state: &MatchState, send: &CallShape, taker: &CallShape) -> bool {
     match send.part {
         Role::Standard if shape.policy == Policy::Always => true,
         Role::Standard | Role::Synchronous => {
@@ -137,7 +137,7 @@ fn is_closed_send(shape: &Shape<'_>, state: &State, send: &CallShape, taker: &Ca
 fn close(
     shape: &Shape<'_>,
     trail: &Trail,
-    state: &mut State,
+    state: &mut MatchState,
     place: usize,
 ) -> Result<(), AllocError> {
     let pair = shape.pair(place);
@@ -157,7 +157,7 @@ fn close(
 }
 
 /// Forgets what a probe has seen, where it has returned; else keeps it.
-fn close_probe(shape: &Shape<'_>, state: &mut State, place: usize) -> Result<(), AllocError> {
+fn close_probe(shape: &Shape<'_>, state: &mut MatchState, place: usize) -> Result<(), AllocError> {
     let probe = shape.pair(place).taker;
     if state.is_settled(shape, Some(probe)) {
         state.set_matched(probe);
@@ -170,7 +170,7 @@ fn close_probe(shape: &Shape<'_>, state: &mut State, place: usize) -> Result<(),
 fn take_pairs(
     shape: &Shape<'_>,
     trail: &Trail,
-    state: &mut State,
+    state: &mut MatchState,
     pairs: &[usize],
     are_real: &[bool],
 ) -> Result<(), AllocError> {
@@ -192,9 +192,9 @@ pub fn read_off(
     alloc: Global,
     shape: &Shape<'_>,
     trail: &Trail,
-    before: &State,
-) -> Result<State, AllocError> {
-    let mut state = State {
+    before: &MatchState,
+) -> Result<MatchState, AllocError> {
+    let mut state = MatchState {
         ranks: all_progress(alloc, shape, trail, before)?,
         is_matched: before.is_matched.as_slice().to_vec(alloc)?,
         kept: Vec::new(alloc),

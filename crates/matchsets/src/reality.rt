@@ -1,7 +1,7 @@
 //! Which pairs have happened in the order of some run, whatever else is so.
 
 use crate::shape::{CallShape, Shape};
-use crate::state::State;
+use crate::state::MatchState;
 use callorder::Policy;
 use formula::Condition;
 use std::alloc::{AllocError, Global};
@@ -10,7 +10,7 @@ use std::alloc::{AllocError, Global};
 #[derive(Drop)]
 struct Reality<'a, 'e> {
     shape: &'a Shape<'e>,
-    state: &'a State,
+    state: &'a MatchState,
     /// How many calls of each rank are issued.
     issued: Vec<usize>,
     is_matched: Vec<bool>,
@@ -30,7 +30,7 @@ impl<'a, 'e> Reality<'a, 'e> {
     fn new(
         alloc: Global,
         shape: &'a Shape<'e>,
-        state: &'a State,
+        state: &'a MatchState,
         pairs: usize,
     ) -> Result<Reality<'a, 'e>, AllocError> {
         Ok(Reality {
@@ -172,7 +172,7 @@ impl<'a, 'e> Reality<'a, 'e> {
 pub(crate) fn which_are_real(
     alloc: Global,
     shape: &Shape<'_>,
-    state: &State,
+    state: &MatchState,
     pairs: &[usize],
 ) -> Result<Vec<bool>, AllocError> {
     let mut reality = Reality::new(alloc, shape, state, pairs.len())?;

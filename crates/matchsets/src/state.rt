@@ -22,7 +22,7 @@ pub(crate) struct Progress {
 /// What is known: how far the ranks come, which calls are matched among themselves, and which pairs
 /// are matched and still matter.
 #[derive(Drop)]
-pub struct State {
+pub struct MatchState {
     pub(crate) ranks: Vec<Progress>,
     /// Sends and takers that are matched with one another, their partners forgotten, and probes
     /// that have seen a message, whose is forgotten.
@@ -130,9 +130,9 @@ fn push_kept(
     Ok(())
 }
 
-impl State {
+impl MatchState {
     /// Nothing is known.
-    pub fn new(alloc: Global, shape: &Shape<'_>) -> Result<State, AllocError> {
+    pub fn new(alloc: Global, shape: &Shape<'_>) -> Result<MatchState, AllocError> {
         let mut ranks = Vec::new(alloc);
         for rank in shape.ranks() {
             ranks.push(Progress {
@@ -141,7 +141,7 @@ impl State {
                 end: rank.length.saturating_add(1),
             })?;
         }
-        Ok(State {
+        Ok(MatchState {
             ranks,
             is_matched: vec![in alloc; false; shape.calls().len()]?,
             kept: Vec::new(alloc),

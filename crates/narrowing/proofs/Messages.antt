@@ -21,7 +21,7 @@ use Rattle.semantics.proofs.Runs.{IsRun-at}
 use Rattle.run_laws.specs.Laws.{IsOpenPair}
 use Rattle.run_laws.proofs.Descent.{some_match_or_see_is_enabled}
 use Rattle.formula_from_run.proofs.Pairings.{finding}
-use Rattle.narrowing.specs.declared.taken.Taken.TheVariants as taken
+use Rattle.narrowing.specs.declared.taken.ChoiceTaken.TheVariants as taken
 use Rattle.narrowing.specs.Narrowed.{without_star, named_pattern, narrowed_kind, narrowed_call, IsNarrowed}
 use Rattle.narrowing.specs.Ways.{way_to, way_to_call}
 use Rattle.narrowing.proofs.Alike.{same_call, same_issued, same_of_rank, same_one_rank, same_opening, same_has_next, run_from_each}

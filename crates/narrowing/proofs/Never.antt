@@ -12,8 +12,8 @@ use Rattle.callorder.specs.Programs.{MpiProgram, call_at, are_fit}
 use Rattle.semantics.specs.declared.state.Step.{Step}
 use Rattle.semantics.specs.Machine.{IsStuckRun, opening, after_all, is_issued, is_buffered, is_matched, partner_of}
 use Rattle.formula_from_run.proofs.Pairings.{received, take_all}
-use Rattle.narrowing.specs.declared.taken.Taken.{Taken}
-use Rattle.narrowing.specs.declared.taken.Taken.TheVariants as taken
+use Rattle.narrowing.specs.declared.taken.ChoiceTaken.{ChoiceTaken}
+use Rattle.narrowing.specs.declared.taken.ChoiceTaken.TheVariants as taken
 use Rattle.narrowing.specs.Ways.{way_to, way_to_call, AreOtherMessages, IsOtherMessage}
 use Rattle.narrowing.specs.Laws.{NeverStuckSo, IsOpenSend, HasFound, TakenWhereNeverOtherwise}
 use Rattle.narrowing.proofs.Messages.{stuck_run_so}
@@ -31,7 +31,7 @@ way_of_fit (Some x) (Some y) fit = at (message_of x.kind) fit
 
 -- a run that ends stuck, in which the call found no message but this one, has no place where such
 -- runs are never stuck
-excluded : (p : MpiProgram) (call : ℕ) (way : Taken) (steps : List Step) (send : ℕ) → IsStuckRun p steps → NeverStuckSo p call way → are_fit p send call ≡ true → way_to p send ≡ Some way → ((x : ℕ) → partner_of (after_all (opening p) steps) call ≡ Some x → way_to p x ≡ Some way) → ⊥
+excluded : (p : MpiProgram) (call : ℕ) (way : ChoiceTaken) (steps : List Step) (send : ℕ) → IsStuckRun p steps → NeverStuckSo p call way → are_fit p send call ≡ true → way_to p send ≡ Some way → ((x : ℕ) → partner_of (after_all (opening p) steps) call ≡ Some x → way_to p x ≡ Some way) → ⊥
 excluded p call way steps send stuck never fit is so =
     let found = way_of_fit (call_at p send) (call_at p call) fit in
     let same : way ≡ taken.Message found.0 found.1 = same_Some way (taken.Message found.0 found.1) (sym is ∙ found.2) in
@@ -46,7 +46,7 @@ found_fits p steps call send x stuck fit e =
     let same : r.send ≡ x = same_Some r.send x (sym r.pair.taker_kept ∙ e) in
     subst (λ (z : ℕ). are_fit p z call ≡ true) same r.pair.can.fit
 
-message_found : (p : MpiProgram) (call : ℕ) (way : Taken) (others : List Taken) (steps : List Step) → AreOtherMessages p call way others → (others ≡ [] → ⊥) → All (λ other. NeverStuckSo p call other) others → IsStuckRun p steps → HasFound p (after_all (opening p) steps) call way
+message_found : (p : MpiProgram) (call : ℕ) (way : ChoiceTaken) (others : List ChoiceTaken) (steps : List Step) → AreOtherMessages p call way others → (others ≡ [] → ⊥) → All (λ other. NeverStuckSo p call other) others → IsStuckRun p steps → HasFound p (after_all (opening p) steps) call way
 message_found p call way [] steps ways some never stuck = absurd (some refl)
 message_found p call way (first ∷ rest) steps ways some never stuck = at (partner_of (after_all (opening p) steps) call) refl
   where
@@ -87,7 +87,7 @@ send_so p c b steps program send never stuck = at (is_issued p (after_all (openi
 
 pub taken_where_never_otherwise : TakenWhereNeverOtherwise
 taken_where_never_otherwise p call taken.Buffered others steps program leaves ways some never stuck =
-    send_so p call true steps program leaves (subst (λ (l : List Taken). All (λ other. NeverStuckSo p call other) l) ways never 0 taken.NotBuffered (omega arith)) stuck
+    send_so p call true steps program leaves (subst (λ (l : List ChoiceTaken). All (λ other. NeverStuckSo p call other) l) ways never 0 taken.NotBuffered (omega arith)) stuck
 taken_where_never_otherwise p call taken.NotBuffered others steps program leaves ways some never stuck =
-    send_so p call false steps program leaves (subst (λ (l : List Taken). All (λ other. NeverStuckSo p call other) l) ways never 0 taken.Buffered (omega arith)) stuck
+    send_so p call false steps program leaves (subst (λ (l : List ChoiceTaken). All (λ other. NeverStuckSo p call other) l) ways never 0 taken.Buffered (omega arith)) stuck
 taken_where_never_otherwise p call (taken.Message s t) others steps program leaves ways some never stuck = message_found p call (taken.Message s t) others steps ways some never stuck

@@ -22,8 +22,8 @@ use Rattle.semantics.specs.declared.state.Step.{Step}
 use Rattle.semantics.specs.declared.state.Step.TheVariants.{Issue, Match, See}
 use Rattle.semantics.specs.Machine.{Configuration, CanFind, IsEnabled, IsRun, IsStuck, IsStuckRun, opening, after, after_all, is_issued, is_issued_call, is_matched, is_buffered, partner_of, fetches, fetches_partner, is_fetched, is_done, is_done_kind, is_returned, is_returned_kind, has_returned_before, may_be, can_issue, can_issue_next, can_issue_call, is_rank_finished}
 use Rattle.semantics.proofs.Lengths.{issued_grows, issues, Issues}
-use Rattle.narrowing.specs.declared.taken.Taken.{Taken}
-use Rattle.narrowing.specs.declared.taken.Taken.TheVariants as taken
+use Rattle.narrowing.specs.declared.taken.ChoiceTaken.{ChoiceTaken}
+use Rattle.narrowing.specs.declared.taken.ChoiceTaken.TheVariants as taken
 use Rattle.narrowing.specs.Narrowed.{narrowed_kind, narrowed_call, IsNarrowed}
 use Rattle.narrowing.specs.Laws.{IsOpenSend}
 use Rattle.narrowing.proofs.Alike.{same_call, same_issued, same_of_rank, same_one_rank, same_opening}
@@ -31,7 +31,7 @@ use Rattle.narrowing.proofs.Alike.{same_call, same_issued, same_of_rank, same_on
 -- ---- kinds
 
 -- the way of a send that was buffered, or not
-abbrev pub way_of : Bool → Taken
+abbrev pub way_of : Bool → ChoiceTaken
 way_of true = taken.Buffered
 way_of false = taken.NotBuffered
 

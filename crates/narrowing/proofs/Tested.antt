@@ -6,12 +6,12 @@ use Rattle.std.specs.Option.{option_map}
 use Rattle.std.proofs.lemmas.Bool.{cases_eq, cases_lt}
 use Rattle.std.proofs.lemmas.Option.{same_Some, slice_get_past}
 use Rattle.callorder.specs.Programs.{MpiProgram, call_at, are_fit}
-use Rattle.narrowing.specs.declared.taken.Taken.{Taken}
+use Rattle.narrowing.specs.declared.taken.ChoiceTaken.{ChoiceTaken}
 use Rattle.narrowing.specs.Narrowed.{narrowed_call, IsNarrowed, IsNarrowedAt}
 use Rattle.std.proofs.lemmas.List.Elements.{Contains-push, Contains-append_left, All-push}
 use Rattle.narrowing.specs.Ways.{way_to, IsOtherMessage, AreOthersBelow}
 
-pub one_more_place : (p q : MpiProgram) (call : ℕ) (way : Taken) (i : ℕ) → ((k : ℕ) → k < i → IsNarrowedAt p call way q k) → IsNarrowedAt p call way q i → (k : ℕ) → k < i + 1 → IsNarrowedAt p call way q k
+pub one_more_place : (p q : MpiProgram) (call : ℕ) (way : ChoiceTaken) (i : ℕ) → ((k : ℕ) → k < i → IsNarrowedAt p call way q k) → IsNarrowedAt p call way q i → (k : ℕ) → k < i + 1 → IsNarrowedAt p call way q k
 one_more_place p q call way i so here k below =
     elim (cases_eq k i) [
       | inl e ↦ subst (λ (z : ℕ). IsNarrowedAt p call way q z) (sym e) here
@@ -19,13 +19,13 @@ one_more_place p q call way i so here k below =
     ]
 
 -- past the end there is no call in either
-past : (p q : MpiProgram) (call : ℕ) (way : Taken) → length q.calls ≡ length p.calls → (k : ℕ) → length p.calls ≤ k → IsNarrowedAt p call way q k
+past : (p q : MpiProgram) (call : ℕ) (way : ChoiceTaken) → length q.calls ≡ length p.calls → (k : ℕ) → length p.calls ≤ k → IsNarrowedAt p call way q k
 past p q call way long k out =
     let old : call_at p k ≡ None = slice_get_past p.calls k out in
     let new : call_at q k ≡ None = slice_get_past q.calls k (omega arith) in
     record { same = λ differ. new ∙ sym old; narrowed = λ e. new ∙ sym (ap (option_map (narrowed_call way)) old) }
 
-pub all_narrowed : (p q : MpiProgram) (call : ℕ) (way : Taken) (i : ℕ) → q.policy ≡ p.policy → q.ranks ≡ p.ranks → length q.calls ≡ length p.calls → length p.calls ≤ i → ((k : ℕ) → k < i → IsNarrowedAt p call way q k) → IsNarrowed p call way q
+pub all_narrowed : (p q : MpiProgram) (call : ℕ) (way : ChoiceTaken) (i : ℕ) → q.policy ≡ p.policy → q.ranks ≡ p.ranks → length q.calls ≡ length p.calls → length p.calls ≤ i → ((k : ℕ) → k < i → IsNarrowedAt p call way q k) → IsNarrowed p call way q
 all_narrowed p q call way i policy ranks long end so =
     record { policy = policy; ranks = ranks; length = long; there = (each call).narrowed refl; elsewhere = λ c. (each c).same }
   where
@@ -38,14 +38,14 @@ all_narrowed p q call way i policy ranks long end so =
 
 -- ---- the other ways
 
-pub one_more_way : (p : MpiProgram) (call : ℕ) (taken : Taken) (send : ℕ) (others : List Taken) (way : Taken) → are_fit p send call ≡ true → way_to p send ≡ Some way → (way ≡ taken → ⊥) → AreOthersBelow p call taken send others → AreOthersBelow p call taken (send + 1) (others ++ way ∷ [])
+pub one_more_way : (p : MpiProgram) (call : ℕ) (taken : ChoiceTaken) (send : ℕ) (others : List ChoiceTaken) (way : ChoiceTaken) → are_fit p send call ≡ true → way_to p send ≡ Some way → (way ≡ taken → ⊥) → AreOthersBelow p call taken send others → AreOthersBelow p call taken (send + 1) (others ++ way ∷ [])
 one_more_way p call taken send others way fit is other old =
     record {
       all = λ s w below fits said.
           elim (cases_eq s send) [
             | inl e ↦
                 let same : way ≡ w = same_Some way w (sym is ∙ subst (λ (z : ℕ). way_to p z ≡ Some w) e said) in
-                inr (subst (λ (z : Taken). Contains (others ++ way ∷ []) z) same (Contains-push others way))
+                inr (subst (λ (z : ChoiceTaken). Contains (others ++ way ∷ []) z) same (Contains-push others way))
             | inr differ ↦
                 elim (old.all s w (omega arith) fits said) [
                   | inl same ↦ inl same

@@ -10,11 +10,11 @@ use Rattle.semantics.specs.Machine.{Configuration, IsStuckRun, opening, after_al
 use Rattle.semantics.specs.declared.state.Step.{Step}
 use Rattle.narrowing.specs.Narrowed.{IsNarrowed}
 use Rattle.narrowing.specs.Ways.{AreOtherWays, way_to}
-use Rattle.narrowing.specs.declared.taken.Taken.{Taken}
-use Rattle.narrowing.specs.declared.taken.Taken.TheVariants as taken
+use Rattle.narrowing.specs.declared.taken.ChoiceTaken.{ChoiceTaken}
+use Rattle.narrowing.specs.declared.taken.ChoiceTaken.TheVariants as taken
 
 -- with the choice made so, no run ends stuck
-pub record NeverStuckSo (p : MpiProgram) (call : ℕ) (way : Taken) : Type 0 where
+pub record NeverStuckSo (p : MpiProgram) (call : ℕ) (way : ChoiceTaken) : Type 0 where
   pub narrowed : MpiProgram
   pub is : IsNarrowed p call way narrowed
   pub never : (steps : List Step) → IsStuckRun narrowed steps → ⊥
@@ -29,19 +29,19 @@ pub record IsOpenSend (p : MpiProgram) (call : ℕ) : Type 0 where
 
 -- The call leaves open whether it is buffered; of a call that finds messages nothing is asked,
 -- since what fits it is asked of its other ways.
-abbrev pub LeavesOpen : MpiProgram → ℕ → Taken → Type 0
+abbrev pub LeavesOpen : MpiProgram → ℕ → ChoiceTaken → Type 0
 LeavesOpen p call taken.Buffered = IsOpenSend p call
 LeavesOpen p call taken.NotBuffered = IsOpenSend p call
 LeavesOpen p call (taken.Message source tag) = Unit {0}
 
 -- the call found a message of that rank with that tag
-pub record HasFound (p : MpiProgram) (m : Configuration) (call : ℕ) (way : Taken) : Type 0 where
+pub record HasFound (p : MpiProgram) (m : Configuration) (call : ℕ) (way : ChoiceTaken) : Type 0 where
   pub send : ℕ
   pub found : partner_of m call ≡ Some send
   pub is : way_to p send ≡ Some way
 
 -- where a run has come so far, the choice was made so
-abbrev pub IsTakenSo : MpiProgram → Configuration → ℕ → Taken → Type 0
+abbrev pub IsTakenSo : MpiProgram → Configuration → ℕ → ChoiceTaken → Type 0
 IsTakenSo p m call taken.Buffered = IsTrue (is_issued p m call) × (is_buffered m call ≡ true)
 IsTakenSo p m call taken.NotBuffered = IsTrue (is_issued p m call) × (is_buffered m call ≡ false)
 IsTakenSo p m call (taken.Message source tag) = HasFound p m call (taken.Message source tag)
@@ -50,5 +50,5 @@ IsTakenSo p m call (taken.Message source tag) = HasFound p m call (taken.Message
 -- run that does.
 abbrev pub TakenWhereNeverOtherwise : Type 0
 TakenWhereNeverOtherwise =
-    (p : MpiProgram) (call : ℕ) (way : Taken) (others : List Taken) (steps : List Step) → IsProgram p → LeavesOpen p call way → AreOtherWays p call way others
+    (p : MpiProgram) (call : ℕ) (way : ChoiceTaken) (others : List ChoiceTaken) (steps : List Step) → IsProgram p → LeavesOpen p call way → AreOtherWays p call way others
     → (others ≡ [] → ⊥) → All (λ other. NeverStuckSo p call other) others → IsStuckRun p steps → IsTakenSo p (after_all (opening p) steps) call way

@@ -13,5 +13,5 @@ mod ways;
 
 pub use laws::taken_where_never_otherwise;
 pub use narrowed::is_narrowed;
-pub use taken::Taken;
+pub use taken::ChoiceTaken;
 pub use ways::{is_open_send, other_ways, way_to};

@@ -3,7 +3,7 @@
 ghost use Rattle.std.specs.Prelude.{◌≡◌, ◌↔◌, IsTrue};
 ghost use Rattle.narrowing.specs.Narrowed.{without_star, named_pattern, narrowed_kind, narrowed_call, IsNarrowedAt, IsNarrowed};
 
-use crate::taken::Taken;
+use crate::taken::ChoiceTaken;
 use callorder::{Call, Kind, LongProgram, Pattern};
 use calltext::Mode;
 
@@ -29,12 +29,12 @@ fn named_pattern(source: u32, tag: u32, pattern: Pattern) -> Pattern
 }
 
 /// What a call of this kind does with no more left open.
-fn narrowed_kind(way: Taken, kind: Kind) -> Kind
+fn narrowed_kind(way: ChoiceTaken, kind: Kind) -> Kind
     ensures { result ≡ narrowed_kind way kind }
 {
     match (way, kind) {
         (
-            Taken::Buffered,
+            ChoiceTaken::Buffered,
             Kind::Send {
                 mode: Mode::Standard,
                 blocking,
@@ -46,7 +46,7 @@ fn narrowed_kind(way: Taken, kind: Kind) -> Kind
             message,
         },
         (
-            Taken::NotBuffered,
+            ChoiceTaken::NotBuffered,
             Kind::Send {
                 mode: Mode::Standard,
                 blocking,
@@ -57,17 +57,17 @@ fn narrowed_kind(way: Taken, kind: Kind) -> Kind
             blocking,
             message,
         },
-        (Taken::Message { source, tag }, Kind::Receive { blocking, pattern }) => Kind::Receive {
+        (ChoiceTaken::Message { source, tag }, Kind::Receive { blocking, pattern }) => Kind::Receive {
             blocking,
             pattern: named_pattern(source, tag, pattern),
         },
-        (Taken::Message { source, tag }, Kind::MatchedProbe { pattern, receive }) => {
+        (ChoiceTaken::Message { source, tag }, Kind::MatchedProbe { pattern, receive }) => {
             Kind::MatchedProbe {
                 pattern: named_pattern(source, tag, pattern),
                 receive,
             }
         }
-        (Taken::Message { source, tag }, Kind::Probe { pattern }) => Kind::Probe {
+        (ChoiceTaken::Message { source, tag }, Kind::Probe { pattern }) => Kind::Probe {
             pattern: named_pattern(source, tag, pattern),
         },
         (_, kind) => kind,
@@ -75,7 +75,7 @@ fn narrowed_kind(way: Taken, kind: Kind) -> Kind
 }
 
 /// The call with no more left open.
-fn narrowed_call(way: Taken, call: Call) -> Call
+fn narrowed_call(way: ChoiceTaken, call: Call) -> Call
     ensures { result ≡ narrowed_call way call }
 {
     Call {
@@ -96,7 +96,7 @@ fn is_same(call: Option<Call>, other: Option<Call>) -> bool
 fn is_narrowed_at(
     program: &LongProgram,
     call: usize,
-    way: Taken,
+    way: ChoiceTaken,
     other: &LongProgram,
     place: usize,
 ) -> bool
@@ -113,7 +113,7 @@ fn is_narrowed_at(
 
 /// Whether the second program is the first one, but that this call of it leaves open no more than
 /// this way. Takes no memory.
-pub fn is_narrowed(program: &LongProgram, call: usize, way: Taken, other: &LongProgram) -> bool
+pub fn is_narrowed(program: &LongProgram, call: usize, way: ChoiceTaken, other: &LongProgram) -> bool
     ensures { IsTrue result ↔ IsNarrowed program.now call way other.now }
 {
     let count = program.calls().len();

@@ -2,7 +2,7 @@
 
 /// What a run did where a call left something open.
 #[derive(Clone, Copy, PartialEq, Eq)]
-pub enum Taken {
+pub enum ChoiceTaken {
     /// The send was buffered.
     Buffered,
     /// The send was not buffered.

@@ -4,7 +4,7 @@ ghost use Rattle.std.specs.Prelude.{◌≡◌, ◌↔◌, ◌+◌, ◌∷◌, []
 ghost use Rattle.narrowing.specs.Laws.{IsOpenSend};
 ghost use Rattle.narrowing.specs.Ways.{way_to, AreOtherMessages, AreOthersBelow, AreOtherWays};
 
-use crate::taken::Taken;
+use crate::taken::ChoiceTaken;
 use callorder::{Call, Kind, LongProgram};
 use calltext::{Mode, Policy};
 use std::alloc::{AllocError, Global};
@@ -28,19 +28,19 @@ pub fn is_open_send(program: &LongProgram, call: usize) -> bool
 }
 
 /// That a call finds the message of this send; none where there is no such send.
-pub fn way_to(program: &LongProgram, send: usize) -> Option<Taken>
+pub fn way_to(program: &LongProgram, send: usize) -> Option<ChoiceTaken>
     ensures { result ≡ way_to program.now send }
 {
     let call = program.call(send)?;
     let message = call.kind.message()?;
-    Some(Taken::Message {
+    Some(ChoiceTaken::Message {
         source: call.rank,
         tag: message.tag,
     })
 }
 
 /// Whether two ways are one.
-fn is_same(way: Taken, other: Taken) -> bool
+fn is_same(way: ChoiceTaken, other: ChoiceTaken) -> bool
     ensures { IsTrue result ↔ (way ≡ other) }
 {
     way == other
@@ -49,10 +49,10 @@ fn is_same(way: Taken, other: Taken) -> bool
 /// Adds the rank and the tag of a send that fits the call, unless they are those that it found, or
 /// are there.
 fn put_other(
-    others: &mut Vec<Taken>,
+    others: &mut Vec<ChoiceTaken>,
     program: &LongProgram,
     call: usize,
-    taken: Taken,
+    taken: ChoiceTaken,
     send: usize,
 ) -> Result<(), AllocError>
     ensures { OnOk result (AreOthersBelow program.now call taken send others.old.items →
@@ -77,8 +77,8 @@ fn other_messages(
     alloc: Global,
     program: &LongProgram,
     call: usize,
-    taken: Taken,
-) -> Result<Vec<Taken>, AllocError>
+    taken: ChoiceTaken,
+) -> Result<Vec<ChoiceTaken>, AllocError>
     ensures { IfOk result (λ others. AreOtherMessages program.now call taken others.items) }
 {
     let mut others = Vec::new(alloc);
@@ -89,7 +89,7 @@ fn other_messages(
 }
 
 /// A list of this way.
-fn one_way(alloc: Global, way: Taken) -> Result<Vec<Taken>, AllocError>
+fn one_way(alloc: Global, way: ChoiceTaken) -> Result<Vec<ChoiceTaken>, AllocError>
     ensures { IfOk result (λ ways. ways.items ≡ way ∷ []) }
 {
     let mut ways = Vec::new(alloc);
@@ -104,13 +104,13 @@ pub fn other_ways(
     alloc: Global,
     program: &LongProgram,
     call: usize,
-    taken: Taken,
-) -> Result<Vec<Taken>, AllocError>
+    taken: ChoiceTaken,
+) -> Result<Vec<ChoiceTaken>, AllocError>
     ensures { IfOk result (λ others. AreOtherWays program.now call taken others.items) }
 {
     match taken {
-        Taken::Buffered => one_way(alloc, Taken::NotBuffered),
-        Taken::NotBuffered => one_way(alloc, Taken::Buffered),
-        Taken::Message { source: _, tag: _ } => other_messages(alloc, program, call, taken),
+        ChoiceTaken::Buffered => one_way(alloc, ChoiceTaken::NotBuffered),
+        ChoiceTaken::NotBuffered => one_way(alloc, ChoiceTaken::Buffered),
+        ChoiceTaken::Message { source: _, tag: _ } => other_messages(alloc, program, call, taken),
     }
 }

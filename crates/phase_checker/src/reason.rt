@@ -5,7 +5,7 @@ ghost use Rattle.phase_checker.specs.Reasons.{phase_undecided, program_undecided
 
 use callorder::ResolveFault;
 use calltext::ReadFault;
-use deciding::{Race, Undecided};
+use deciding::{CallerRace, Undecided};
 use thiserror::Error;
 
 /// Why no phase is made of a text by one run.
@@ -25,7 +25,7 @@ pub enum NotAPhase {
     Deadlock,
     /// The run finishes, but messages may race for this call, so that it tells nothing.
     #[error("race")]
-    Race(Race),
+    CallerRace(CallerRace),
 }
 
 impl From<Undecided> for NotAPhase {

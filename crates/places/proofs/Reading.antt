@@ -12,7 +12,7 @@ use Rattle.plaintext.proofs.Cuts.{no_line_of}
 use Rattle.plaintext.proofs.Numerals.{numeral_injective}
 use Rattle.places.specs.Maps.{AreOf, CanAllStand, HasLineOf, IsLineOf, IsMapFault, IsMapOf, IsRemark, MayStand, entry_line}
 use Rattle.places.specs.parts.Noting.{HasNoPlace, IsLeft, IsTakenLine, IsTakenIf, Notes}
-use Rattle.places.specs.declared.entries.Entry.{Entry}
+use Rattle.places.specs.declared.entries.MapEntry.{MapEntry}
 use Rattle.places.specs.declared.map.MapFault.TheVariants as faults
 use Rattle.places.proofs.Digits.{no_digit, same_digits}
 use Rattle.places.proofs.Faults.{Stand, false_true, go_on, later_faulty, name_line, split_more, stand_more, stand_none, title}
@@ -42,7 +42,7 @@ no_remark line d w of (inr (inr (inr (inl r)))) = other_front line d w (codes "o
 no_remark line d w of (inr (inr (inr (inr (inl r))))) = other_front line d w (codes "ag " ++ r.0) 116 of r.1 (λ e. omega (arith, e))
 no_remark line d w of (inr (inr (inr (inr (inr r))))) = other_front line d w (codes "nd") 101 of r (λ e. omega (arith, e))
 
-pub taken_entry : (b : Bool) (old new : List (Option Entry)) (line : List ℕ) (entry : Entry) → IsLineOf line entry.number.now entry.words.now
+pub taken_entry : (b : Bool) (old new : List (Option MapEntry)) (line : List ℕ) (entry : MapEntry) → IsLineOf line entry.number.now entry.words.now
     → (b ≡ true → Notes old new entry) → (b ≡ false → HasNoPlace old entry.number.now) → IsTakenIf b old new line
 taken_entry true old new line entry of noted none = inl (entry, of, noted refl)
 taken_entry false old new line entry of noted none = (
@@ -50,7 +50,7 @@ taken_entry false old new line entry of noted none = (
   λ digits words other. subst (λ (d : List ℕ). HasNoPlace old d) (one_line_of line entry.number.now entry.words.now digits words of other).0 (none refl),
 )
 
-pub taken_remark : (b : Bool) (old new : List (Option Entry)) (line : List ℕ) → new ≡ old → ((digits words : List ℕ) → IsLineOf line digits words → ⊥)
+pub taken_remark : (b : Bool) (old new : List (Option MapEntry)) (line : List ℕ) → new ≡ old → ((digits words : List ℕ) → IsLineOf line digits words → ⊥)
     → IsTrue b ↔ IsRemark line → IsTakenIf b old new line
 taken_remark true old new line same none is = inr (is.0 refl, none, same)
 taken_remark false old new line same none is = (λ remark. false_true (is.1 remark), λ digits words of. absurd (none digits words of))
@@ -77,14 +77,14 @@ among_last : (seen : List (List ℕ)) (line d w : List ℕ) → IsLineOf line d 
 among_last seen line d w of = (line, Contains-append_right seen ((line ++ 10 ∷ []) ∷ []) (line ++ 10 ∷ []) (0, omega arith, refl), of)
 
 -- the place of an entry is not one that is free
-not_free : (entries : List (Option Entry)) (n m : ℕ) (entry : Entry) → slice_get entries n ≡ Some None → slice_get entries m ≡ Some (Some entry) → m ≡ n → ⊥
+not_free : (entries : List (Option MapEntry)) (n m : ℕ) (entry : MapEntry) → slice_get entries n ≡ Some None → slice_get entries m ≡ Some (Some entry) → m ≡ n → ⊥
 not_free entries n m entry free there same =
     let e : Some None ≡ Some (Some entry) = sym free ∙ sym (ap (λ (k : ℕ). slice_get entries k) same) ∙ there in
     cc
 
-pub of_remark : (seen : List (List ℕ)) (line : List ℕ) (old new : List (Option Entry)) → AreOf seen old → new ≡ old → ((digits words : List ℕ) → IsLineOf line digits words → ⊥)
+pub of_remark : (seen : List (List ℕ)) (line : List ℕ) (old new : List (Option MapEntry)) → AreOf seen old → new ≡ old → ((digits words : List ℕ) → IsLineOf line digits words → ⊥)
     → AreOf (seen ++ (line ++ 10 ∷ []) ∷ []) new
-of_remark seen line old new are same none = subst (λ (l : List (Option Entry)). AreOf (seen ++ (line ++ 10 ∷ []) ∷ []) l) (sym same) (record {
+of_remark seen line old new are same none = subst (λ (l : List (Option MapEntry)). AreOf (seen ++ (line ++ 10 ∷ []) ∷ []) l) (sym same) (record {
   said = λ n entry there.
       let (has, number) = are.said n entry there in
       (among_before seen ((line ++ 10 ∷ []) ∷ []) entry.number.now entry.words.now has, number);
@@ -94,7 +94,7 @@ of_remark seen line old new are same none = subst (λ (l : List (Option Entry)).
   ];
 })
 
-pub of_entry : (seen : List (List ℕ)) (line : List ℕ) (old new : List (Option Entry)) (entry : Entry) → AreOf seen old → IsLineOf line entry.number.now entry.words.now → Notes old new entry
+pub of_entry : (seen : List (List ℕ)) (line : List ℕ) (old new : List (Option MapEntry)) (entry : MapEntry) → AreOf seen old → IsLineOf line entry.number.now entry.words.now → Notes old new entry
     → ((m n : ℕ) → (m ≡ n) ⊎ (m ≢ n)) → AreOf (seen ++ (line ++ 10 ∷ []) ∷ []) new
 of_entry seen line old new entry are of notes same_or = record {
   said = λ m found there. elim (same_or m notes.n) [
@@ -116,12 +116,12 @@ of_entry seen line old new entry are of notes same_or = record {
   ];
 }
   where
-    the_one : (m : ℕ) (found : Entry) → slice_get new m ≡ Some (Some found) → m ≡ notes.n
+    the_one : (m : ℕ) (found : MapEntry) → slice_get new m ≡ Some (Some found) → m ≡ notes.n
         → HasLineOf (seen ++ (line ++ 10 ∷ []) ∷ []) found.number.now found.words.now × (numeral m ≡ found.number.now)
     the_one m found there same =
         let both : Some (Some found) ≡ Some (Some entry) = sym there ∙ ap (λ (k : ℕ). slice_get new k) same ∙ notes.noted in
         let is : entry ≡ found = cc in
-        subst (λ (e : Entry). HasLineOf (seen ++ (line ++ 10 ∷ []) ∷ []) e.number.now e.words.now × (numeral m ≡ e.number.now)) is
+        subst (λ (e : MapEntry). HasLineOf (seen ++ (line ++ 10 ∷ []) ∷ []) e.number.now e.words.now × (numeral m ≡ e.number.now)) is
         (among_last seen line entry.number.now entry.words.now of, ap numeral same ∙ notes.number_is)
 
 -- ---- whether a line may stand
@@ -129,7 +129,7 @@ of_entry seen line old new entry are of notes same_or = record {
 pub may_remark : (text : List ℕ) (seen : List (List ℕ)) (line : List ℕ) → IsRemark line → MayStand text (title ∷ name_line text ∷ seen) (line ++ 10 ∷ [])
 may_remark text seen line remark = inr (line, refl, inl remark)
 
-pub may_entry : (text : List ℕ) (seen : List (List ℕ)) (line : List ℕ) (old new : List (Option Entry)) (entry : Entry) → AreOf seen old → IsLineOf line entry.number.now entry.words.now
+pub may_entry : (text : List ℕ) (seen : List (List ℕ)) (line : List ℕ) (old new : List (Option MapEntry)) (entry : MapEntry) → AreOf seen old → IsLineOf line entry.number.now entry.words.now
     → Notes old new entry → length old ≡ length (text_lines text) → MayStand text (title ∷ name_line text ∷ seen) (line ++ 10 ∷ [])
 may_entry text seen line old new entry are of notes long = inr (
   line,
@@ -148,7 +148,7 @@ may_entry text seen line old new entry are of notes long = inr (
   }),
 )
 
-pub may_not : (text : List ℕ) (seen : List (List ℕ)) (line : List ℕ) (old : List (Option Entry)) → AreOf seen old → length old ≡ length (text_lines text) → IsLeft old line
+pub may_not : (text : List ℕ) (seen : List (List ℕ)) (line : List ℕ) (old : List (Option MapEntry)) → AreOf seen old → length old ≡ length (text_lines text) → IsLeft old line
     → MayStand text (title ∷ name_line text ∷ seen) (line ++ 10 ∷ []) → ⊥
 may_not text seen line old are long left (inl end) = omega (arith, ap (λ (l : List ℕ). length l) end.0, some_byte line)
   where
@@ -174,7 +174,7 @@ same_or (suc m) (suc n) = elim (same_or m n) [
   | inr other ↦ inr (λ e. other (omega (arith, e)))
 ]
 
-pub of_none : (entries : List (Option Entry)) → ((n : ℕ) (entry : Entry) → slice_get entries n ≡ Some (Some entry) → ⊥) → AreOf [] entries
+pub of_none : (entries : List (Option MapEntry)) → ((n : ℕ) (entry : MapEntry) → slice_get entries n ≡ Some (Some entry) → ⊥) → AreOf [] entries
 of_none entries none = record { said = λ n entry there. absurd (none n entry there); all = λ d w (line, there, of). absurd (omega (arith, there.1)) }
 
 -- the line that was read last
@@ -182,7 +182,7 @@ abbrev pub LastIs : List (List ℕ) → List ℕ → Type 0
 LastIs seen last = ((seen ≡ []) × (last ≡ [])) ⊎ ((front : List (List ℕ)) × (seen ≡ front ++ (last ++ 10 ∷ []) ∷ []))
 
 -- what is known of a map that was read to here
-pub record Read (text map rest last : List ℕ) (number : ℕ) (entries : List (Option Entry)) : Type 0 where
+pub record Read (text map rest last : List ℕ) (number : ℕ) (entries : List (Option MapEntry)) : Type 0 where
   pub seen : List (List ℕ)
   pub lines : text_lines map ≡ title ∷ name_line text ∷ (seen ++ text_lines rest)
   pub counts : number ≡ length seen + 2
@@ -192,8 +192,8 @@ pub record Read (text map rest last : List ℕ) (number : ℕ) (entries : List (
   pub are : AreOf seen entries
   pub long : length entries ≡ length (text_lines text)
 
-pub read_none : (text map rest : List ℕ) (entries : List (Option Entry)) → text_lines map ≡ title ∷ name_line text ∷ text_lines rest → length rest + 2 ≤ length map
-    → ((n : ℕ) (entry : Entry) → slice_get entries n ≡ Some (Some entry) → ⊥) → length entries ≡ length (text_lines text) → Read text map rest [] 2 entries
+pub read_none : (text map rest : List ℕ) (entries : List (Option MapEntry)) → text_lines map ≡ title ∷ name_line text ∷ text_lines rest → length rest + 2 ≤ length map
+    → ((n : ℕ) (entry : MapEntry) → slice_get entries n ≡ Some (Some entry) → ⊥) → length entries ≡ length (text_lines text) → Read text map rest [] 2 entries
 read_none text map rest entries lines room none long = record {
   seen = [];
   lines = lines;
@@ -205,14 +205,14 @@ read_none text map rest entries lines room none long = record {
   long = long;
 }
 
-taken_may : (text : List ℕ) (seen : List (List ℕ)) (line : List ℕ) (old new : List (Option Entry)) → AreOf seen old → length old ≡ length (text_lines text) → IsTakenLine old new line
+taken_may : (text : List ℕ) (seen : List (List ℕ)) (line : List ℕ) (old new : List (Option MapEntry)) → AreOf seen old → length old ≡ length (text_lines text) → IsTakenLine old new line
     → MayStand text (title ∷ name_line text ∷ seen) (line ++ 10 ∷ []) × AreOf (seen ++ (line ++ 10 ∷ []) ∷ []) new × (length new ≡ length old)
 taken_may text seen line old new are long (inl (entry, of, notes)) =
     (may_entry text seen line old new entry are of notes long, of_entry seen line old new entry are of notes same_or, notes.as_long)
 taken_may text seen line old new are long (inr (remark, none, same)) =
-    (may_remark text seen line remark, of_remark seen line old new are same none, ap (λ (l : List (Option Entry)). length l) same)
+    (may_remark text seen line remark, of_remark seen line old new are same none, ap (λ (l : List (Option MapEntry)). length l) same)
 
-pub read_more : (text map rest last line behind : List ℕ) (number : ℕ) (old new : List (Option Entry)) → Read text map rest last number old
+pub read_more : (text map rest last line behind : List ℕ) (number : ℕ) (old new : List (Option MapEntry)) → Read text map rest last number old
     → text_lines rest ≡ (line ++ 10 ∷ []) ∷ text_lines behind → length behind < length rest → IsTakenLine old new line → Read text map behind line (number + 1) new
 read_more text map rest last line behind number old new r next shorter taken =
     let (may, are, long) = taken_may text r.seen line old new r.are r.long taken in
@@ -228,7 +228,7 @@ read_more text map rest last line behind number old new r next shorter taken =
       long = long ∙ r.long;
     }
 
-pub left_faulty : (text map rest last line behind : List ℕ) (number : ℕ) (old : List (Option Entry)) → Read text map rest last number old
+pub left_faulty : (text map rest last line behind : List ℕ) (number : ℕ) (old : List (Option MapEntry)) → Read text map rest last number old
     → text_lines rest ≡ (line ++ 10 ∷ []) ∷ text_lines behind → IsLeft old line → IsMapFault text map (faults.Line (number + 1))
 left_faulty text map rest last line behind number old r next left = (
   line ++ 10 ∷ [],
@@ -260,7 +260,7 @@ no_end text seen rest last (inr at) one other (inl (none, ends)) =
     other (append_cancel_right last (codes "end") (10 ∷ []) (last_one at.0 ends.0 (last ++ 10 ∷ []) (codes "end" ++ 10 ∷ []) (sym at.1 ∙ ends.1))) none
 no_end text seen rest last is one other (inr (words, ends, either)) = no_line_of rest (words ∷ []) one (sym ends)
 
-pub end_faulty : (text map rest last : List ℕ) (number : ℕ) (entries : List (Option Entry)) → Read text map rest last number entries
+pub end_faulty : (text map rest last : List ℕ) (number : ℕ) (entries : List (Option MapEntry)) → Read text map rest last number entries
     → text_lines rest ≡ rest ∷ [] → (last ≡ codes "end" → rest ≡ [] → ⊥) → IsMapFault text map (faults.Line (number + 1))
 end_faulty text map rest last number entries r one other = (
   rest,
@@ -269,7 +269,7 @@ end_faulty text map rest last number entries r one other = (
   λ e. omega (arith, e, r.counts),
 )
 
-of_end : (seen : List (List ℕ)) (entries : List (Option Entry)) → AreOf seen entries → AreOf (seen ++ [] ∷ []) entries
+of_end : (seen : List (List ℕ)) (entries : List (Option MapEntry)) → AreOf seen entries → AreOf (seen ++ [] ∷ []) entries
 of_end seen entries are = record {
   said = λ n entry there.
       let (has, number) = are.said n entry there in
@@ -284,7 +284,7 @@ of_end seen entries are = record {
     no_byte [] e = cc
     no_byte (b ∷ line) e = cc
 
-pub read_whole : (text map rest last : List ℕ) (number : ℕ) (entries : List (Option Entry)) → Read text map rest last number entries
+pub read_whole : (text map rest last : List ℕ) (number : ℕ) (entries : List (Option MapEntry)) → Read text map rest last number entries
     → text_lines rest ≡ rest ∷ [] → last ≡ codes "end" → rest ≡ [] → IsMapOf text map × AreOf (drop 2 (text_lines map)) entries
 read_whole text map rest last number entries r one end none = (
   subst (λ (l : List (List ℕ)). CanAllStand text l) (sym lines) (go_on text (r.seen ++ [] ∷ []) (stand_more text r.seen [] r.stand (inl (refl, ends r.last_is)))),

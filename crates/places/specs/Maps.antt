@@ -5,7 +5,7 @@ use Rattle.std.specs.List.{AllByRecursion, Contains, fold}
 use Rattle.plaintext.specs.Fronts.{IsFirstFaultyLine}
 use Rattle.plaintext.specs.TextLines.{text_lines}
 use Rattle.plaintext.specs.Plain.{numeral}
-use Rattle.places.specs.declared.entries.Entry.{Entry}
+use Rattle.places.specs.declared.entries.MapEntry.{MapEntry}
 use Rattle.places.specs.declared.map.MapFault.{MapFault}
 use Rattle.places.specs.declared.map.MapFault.TheVariants as faults
 use Rattle.places.specs.declared.map.Places.{Places}
@@ -111,11 +111,11 @@ IsMapFault text map (faults.Line number) =
 -- ---- its entries as a list
 
 -- The entries are those of the lines, each at the place of its number, and no other.
-pub record AreOf (lines : List (List ℕ)) (entries : List (Option Entry)) : Type 0 where
-  pub said : (n : ℕ) (entry : Entry) → slice_get entries n ≡ Some (Some entry)
+pub record AreOf (lines : List (List ℕ)) (entries : List (Option MapEntry)) : Type 0 where
+  pub said : (n : ℕ) (entry : MapEntry) → slice_get entries n ≡ Some (Some entry)
       → HasLineOf lines entry.number.now entry.words.now × (numeral n ≡ entry.number.now)
   pub all : (digits words : List ℕ) → HasLineOf lines digits words
-      → (n : ℕ) × (entry : Entry) × (slice_get entries n ≡ Some (Some entry)) × (n < 2147483648) × (entry.number.now ≡ digits) × (entry.words.now ≡ words)
+      → (n : ℕ) × (entry : MapEntry) × (slice_get entries n ≡ Some (Some entry)) × (n < 2147483648) × (entry.number.now ≡ digits) × (entry.words.now ≡ words)
 
 abbrev pub AreFrom : List ℕ → Places → Type 0
 AreFrom map places = AreOf (drop 2 (text_lines map)) places.entries.items

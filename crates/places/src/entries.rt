@@ -7,7 +7,7 @@ use crate::marks::digits_of;
 
 /// What a map says of a line of the text.
 #[derive(Clone, Copy)]
-pub struct Entry<'a> {
+pub struct MapEntry<'a> {
     /// The digits of the line's number.
     pub number: &'a [u8],
     /// What is said of it, behind its rank.
@@ -15,7 +15,7 @@ pub struct Entry<'a> {
 }
 
 /// What a line of a map says of a line of the text, where it says something of one.
-pub fn entry_of(line: &[u8]) -> Option<Entry<'_>>
+pub fn entry_of(line: &[u8]) -> Option<MapEntry<'_>>
     ensures some { IfSome result (λ entry. IsLineOf line.now entry.number.now entry.words.now) }
     ensures none { IfNone result ((digits words : List ℕ) → IsLineOf line.now digits words → ⊥) }
 {
@@ -24,5 +24,5 @@ pub fn entry_of(line: &[u8]) -> Option<Entry<'_>>
     let rest = rest.strip_prefix(b": rank ")?;
     let (_rank, rest) = digits_of(rest);
     let words = rest.strip_prefix(b", ")?;
-    Some(Entry { number, words })
+    Some(MapEntry { number, words })
 }

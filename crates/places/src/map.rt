@@ -4,9 +4,9 @@ ghost use Rattle.std.specs.Prelude.{◌≡◌, ◌≤◌, ◌+◌, ◌++◌, ◌
 ghost use Rattle.plaintext.specs.TextLines.{text_lines};
 ghost use Rattle.places.specs.Maps.{AreFrom, HasEntry, IsMapFault, IsMapOf, IsRemark, StartsWith, map_heading, hex_digits};
 ghost use Rattle.places.specs.parts.Noting.{HasNoPlace, IsTakenIf, Notes};
-ghost use Rattle.places.specs.declared.entries.Entry.{Entry};
+ghost use Rattle.places.specs.declared.entries.MapEntry.{MapEntry};
 
-use crate::entries::{Entry, entry_of};
+use crate::entries::{MapEntry, entry_of};
 use crate::sums::sum_of;
 use plaintext::{MOST, next_line, number_of};
 use std::alloc::{AllocError, Global};
@@ -40,7 +40,7 @@ impl From<AllocError> for MapFault {
 #[derive(Drop)]
 pub struct Places<'a> {
     /// For each line, from 0, what is said of it. Lines count from 1.
-    entries: Vec<Option<Entry<'a>>>,
+    entries: Vec<Option<MapEntry<'a>>>,
 }
 
 /// Sixteen hexadecimal digits of a number.
@@ -106,7 +106,7 @@ fn is_remark(line: &[u8]) -> bool
 }
 
 /// Notes an entry, which may stand once for each line. False where it may not stand there.
-fn put_entry<'a>(entries: &mut Vec<Option<Entry<'a>>>, entry: Entry<'a>) -> bool
+fn put_entry<'a>(entries: &mut Vec<Option<MapEntry<'a>>>, entry: MapEntry<'a>) -> bool
     ensures noted { result ≡ true → Notes entries.old.items entries.new.items entry.entry }
     ensures not { result ≡ false → HasNoPlace entries.old.items entry.entry.number.now }
 {
@@ -127,7 +127,7 @@ fn put_entry<'a>(entries: &mut Vec<Option<Entry<'a>>>, entry: Entry<'a>) -> bool
 }
 
 /// Notes a line below the first two, where it may stand there.
-fn put_line<'a>(entries: &mut Vec<Option<Entry<'a>>>, line: &'a [u8]) -> bool
+fn put_line<'a>(entries: &mut Vec<Option<MapEntry<'a>>>, line: &'a [u8]) -> bool
     ensures { IsTakenIf result entries.old.items entries.new.items line.now }
 {
     match entry_of(line) {
@@ -163,7 +163,7 @@ pub fn read_map<'a>(alloc: Global, map: &'a [u8], text: &[u8]) -> Result<Places<
 {
     let heading = heading_of(alloc, text)?;
     let mut rest = behind_heading(map, heading.as_bytes())?;
-    let mut entries: Vec<Option<Entry<'a>>> = vec![in alloc; None; line_count(text) + 1]?;
+    let mut entries: Vec<Option<MapEntry<'a>>> = vec![in alloc; None; line_count(text) + 1]?;
     let mut last: &[u8] = b"";
     let mut number: usize = 2;
     while let Some((line, behind)) = next_line(rest) {
@@ -190,9 +190,9 @@ fn are_same(one: &[u8], other: &[u8]) -> bool
 
 impl<'a> Places<'a> {
     /// What is said of the line of this number.
-    fn entry_at(&self, number: usize) -> Option<Entry<'a>>
+    fn entry_at(&self, number: usize) -> Option<MapEntry<'a>>
         ensures some { IfSome result (λ entry. slice_get self.now.entries.items number ≡ Some (Some entry)) }
-        ensures none { IfNone result ((entry : Entry) → slice_get self.now.entries.items number ≡ Some (Some entry) → ⊥) }
+        ensures none { IfNone result ((entry : MapEntry) → slice_get self.now.entries.items number ≡ Some (Some entry) → ⊥) }
     {
         match self.entries.get(number) {
             Some(Some(entry)) => Some(*entry),

@@ -104,8 +104,8 @@ fn split_open(
             closed.push_reserved(0);
             Ok(below)
         }
-        Err(trees::SplitFault::Memory) => Err(AllocError),
-        Err(trees::SplitFault::TooMany) => unreachable!(),
+        Err(trees::LeafSplitFault::Memory) => Err(AllocError),
+        Err(trees::LeafSplitFault::TooMany) => unreachable!(),
     }
 }
 

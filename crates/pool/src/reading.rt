@@ -23,7 +23,7 @@ use prooflog::{Evidence, Refutation};
 use refutations::{clause_at, refutes};
 use std::alloc::{AllocError, Global};
 use std::sync::Arc;
-use trees::{GREATEST_DEPTH, MOST_NODES};
+use trees::{LONGEST_PATH, MOST_TREE_NODES};
 
 /// How far the search is.
 #[derive(Clone, Copy, Debug, PartialEq, Eq)]
@@ -100,7 +100,7 @@ impl Pool {
         requires { leaf < length self.now.held.tree.nodes }
         ensures { IsTrue result ↔ HasNoRoom self.now.held.tree.nodes leaf }
     {
-        self.tree.len() + 2 > MOST_NODES || self.tree.path(leaf).len() + 1 > GREATEST_DEPTH
+        self.tree.len() + 2 > MOST_TREE_NODES || self.tree.path(leaf).len() + 1 > LONGEST_PATH
     }
 
     pub(crate) fn is_variable(&self, variable: u32) -> bool

@@ -11,7 +11,7 @@ use refutations::{LARGEST_NUMBER, Line, Node, ProofTree};
 use std::alloc::{AllocError, AllocFailed, Global};
 use std::marker::Model;
 use thiserror::Error;
-use trimming::TrimFault;
+use trimming::RefutationTrimFault;
 
 /// The most proof lines that a refutation has.
 pub const MOST_LINES: usize = 1_000_000;
@@ -227,12 +227,12 @@ impl Refutation {
 
     /// Leaves out the lines that aren't needed, and makes it one of version 2. Where that is
     /// refused, it stays as it is.
-    pub(crate) fn trim(&mut self, alloc: Global) -> Result<(), TrimFault>
+    pub(crate) fn trim(&mut self, alloc: Global) -> Result<(), RefutationTrimFault>
         ensures trimmed { OnOk result (self.new ≡ trimmed_of self.old) }
         ensures unchanged { OnErr result (self.new ≡ self.old) }
-        ensures number { result ≡ Err TrimFault.Number → are_named self.old.clauses self.old.lines self.old.nodes ≡ false }
+        ensures number { result ≡ Err RefutationTrimFault.Number → are_named self.old.clauses self.old.lines self.old.nodes ≡ false }
         ensures number_only { are_named self.old.clauses self.old.lines self.old.nodes ≡ false →
-            (result ≡ Err TrimFault.Number) ⊎ (result ≡ Err TrimFault.Memory) }
+            (result ≡ Err RefutationTrimFault.Number) ⊎ (result ≡ Err RefutationTrimFault.Memory) }
     {
         trimming::trim(alloc, self.clauses, &mut self.lines, &mut self.tree)?;
         self.version = Version::Two;

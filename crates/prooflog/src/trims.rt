@@ -43,8 +43,8 @@ pub fn trim_in_place(alloc: Global, evidence: &mut Evidence) -> Result<(), TrimF
     match evidence {
         Evidence::Refutation(refutation) => match refutation.trim(alloc) {
             Ok(()) => Ok(()),
-            Err(trimming::TrimFault::Memory) => Err(TrimFault::Memory),
-            Err(trimming::TrimFault::Number) => Err(TrimFault::Number),
+            Err(trimming::RefutationTrimFault::Memory) => Err(TrimFault::Memory),
+            Err(trimming::RefutationTrimFault::Number) => Err(TrimFault::Number),
         },
         Evidence::Schedule(_schedule) => Err(TrimFault::NotRefutation),
     }

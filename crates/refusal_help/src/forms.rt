@@ -1,6 +1,6 @@
 //! What helps, as a text and as an object.
 
-use crate::told::{File, Help, Place};
+use crate::told::{File, Help, MeantLine};
 use serde::Serialize;
 use serde_json::to_string;
 use std::alloc::{AllocError, Global};
@@ -66,7 +66,7 @@ pub fn object_text(alloc: Global, help: &Help) -> Result<String, AllocError> {
 }
 
 /// Shows the line that is meant, but for one of a program that isn't there.
-fn put_place(out: &mut String, place: &Place) -> Result<(), AllocError> {
+fn put_place(out: &mut String, place: &MeantLine) -> Result<(), AllocError> {
     let found = match &place.found {
         Some(found) => found.as_str(),
         None if place.file == File::Evidence => "",

@@ -7,7 +7,7 @@ const MOST_SHOWN: usize = 60;
 
 /// A line of a text, by its number.
 #[derive(Clone, Copy)]
-pub enum Found<'a> {
+pub enum FoundLine<'a> {
     /// It stands there, without its LF.
     Whole(&'a [u8]),
     /// It is the last one, and lacks its LF.
@@ -22,24 +22,24 @@ pub fn lines_of(alloc: Global, text: &[u8]) -> Result<Vec<&[u8]>, AllocError> {
 }
 
 /// The line of this number, from 1.
-pub fn find<'a>(lines: &[&'a [u8]], number: usize) -> Found<'a> {
+pub fn find<'a>(lines: &[&'a [u8]], number: usize) -> FoundLine<'a> {
     let Some(line) = lines.get(number.saturating_sub(1)).copied() else {
-        return Found::Missing;
+        return FoundLine::Missing;
     };
     if number < lines.len() {
-        Found::Whole(line)
+        FoundLine::Whole(line)
     } else if line.is_empty() {
-        Found::Missing
+        FoundLine::Missing
     } else {
-        Found::Unended(line)
+        FoundLine::Unended(line)
     }
 }
 
 /// The bytes of the line of this number, from 1.
 pub fn bytes_at<'a>(lines: &[&'a [u8]], number: usize) -> &'a [u8] {
     match find(lines, number) {
-        Found::Whole(line) | Found::Unended(line) => line,
-        Found::Missing => b"",
+        FoundLine::Whole(line) | FoundLine::Unended(line) => line,
+        FoundLine::Missing => b"",
     }
 }
 

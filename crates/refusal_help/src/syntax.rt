@@ -1,7 +1,7 @@
 //! What is wrong with a line that may not stand in its place, or has a number beyond its limit.
 
 use crate::calls::put_call;
-use crate::lines::{Found, find};
+use crate::lines::{FoundLine, find};
 use crate::spelling::spelling_fault;
 use crate::told::{File, Help};
 use calltext::Verb;
@@ -101,7 +101,7 @@ pub fn put_syntax(
 ) -> Result<(), AllocError> {
     let found = find(lines, number);
     help.show(alloc, File::Program, lines, number)?;
-    let Found::Whole(line) = found else {
+    let FoundLine::Whole(line) = found else {
         return put_end(help, lines, number, found);
     };
     if let Some(fault) = spelling_fault(line) {
@@ -119,9 +119,9 @@ fn put_end(
     help: &mut Help,
     lines: &[&[u8]],
     number: usize,
-    found: Found<'_>,
+    found: FoundLine<'_>,
 ) -> Result<(), AllocError> {
-    if let Found::Missing = found {
+    if let FoundLine::Missing = found {
         help.notes.push_str("the text ends above it\n")?;
         return put_expected(help, lines, number);
     }

@@ -1,6 +1,6 @@
 //! What helps, before it is written as a text or as an object.
 
-use crate::lines::{Found, find, put_shown};
+use crate::lines::{FoundLine, find, put_shown};
 use calltext::Limits;
 use std::alloc::{AllocError, Global};
 
@@ -15,7 +15,7 @@ pub enum File {
 
 /// A line that is meant.
 #[derive(Drop)]
-pub struct Place {
+pub struct MeantLine {
     /// The text that it stands in.
     pub file: File,
     /// Its number, from 1.
@@ -32,7 +32,7 @@ pub struct Help {
     /// The limits that the program's text was read within.
     pub limits: Limits,
     /// The line that is meant, if one is.
-    pub place: Option<Place>,
+    pub place: Option<MeantLine>,
     /// The word that is meant; empty where none is.
     pub word: String,
     /// What is wrong, line by line, each with its LF.
@@ -62,7 +62,7 @@ impl Help {
         number: usize,
         rank: u32,
     ) -> Result<(), AllocError> {
-        self.place = Some(Place {
+        self.place = Some(MeantLine {
             file: File::Program,
             line: number,
             rank: Some(rank),
@@ -79,7 +79,7 @@ impl Help {
         lines: &[&[u8]],
         number: usize,
     ) -> Result<(), AllocError> {
-        self.place = Some(Place {
+        self.place = Some(MeantLine {
             file,
             line: number,
             rank: None,
@@ -98,11 +98,11 @@ impl Help {
 /// The line of this number, from 1, as it is shown.
 fn shown(alloc: Global, lines: &[&[u8]], number: usize) -> Result<Option<String>, AllocError> {
     match find(lines, number) {
-        Found::Whole(line) | Found::Unended(line) => {
+        FoundLine::Whole(line) | FoundLine::Unended(line) => {
             let mut found = String::new(alloc);
             put_shown(&mut found, line)?;
             Ok(Some(found))
         }
-        Found::Missing => Ok(None),
+        FoundLine::Missing => Ok(None),
     }
 }

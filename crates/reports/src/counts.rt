@@ -28,7 +28,7 @@ fn leaves(nodes: &[Node]) -> usize
 
 /// What stands round the numbers.
 #[derive(Clone, Copy)]
-pub struct Marks {
+pub struct CountMarks {
     begin: &'static str,
     front: &'static str,
     middle: &'static str,
@@ -37,39 +37,39 @@ pub struct Marks {
 }
 
 /// What stands round the numbers in a form.
-fn marks_of(form: Form) -> Marks
+fn marks_of(form: Form) -> CountMarks
     ensures { texts_of result ≡ marks_of form }
 {
     match form {
-        Form::Brief | Form::Whole | Form::Chart | Form::Messages => Marks {
+        Form::Brief | Form::Whole | Form::Chart | Form::Messages => CountMarks {
             begin: "no deadlock\n",
             front: "",
             middle: " ",
             back: "\n",
             foot: "",
         },
-        Form::Graph => Marks {
+        Form::Graph => CountMarks {
             begin: "// no deadlock\n",
             front: "// ",
             middle: " ",
             back: "\n",
             foot: "digraph waits {\n}\n",
         },
-        Form::Picture => Marks {
+        Form::Picture => CountMarks {
             begin: "<svg xmlns=\"http://www.w3.org/2000/svg\" width=\"480\" height=\"180\" font-family=\"monospace\" font-size=\"13\">\n<text y=\"8\">\n<tspan x=\"8\" dy=\"16\">no deadlock</tspan>\n",
             front: "<tspan x=\"8\" dy=\"16\">",
             middle: " ",
             back: "</tspan>\n",
             foot: "</text>\n</svg>\n",
         },
-        Form::Page => Marks {
+        Form::Page => CountMarks {
             begin: "<!DOCTYPE html>\n<html lang=\"en\">\n<head>\n<meta charset=\"utf-8\">\n<title>mpiprove: no deadlock</title>\n</head>\n<body>\n<h1>No deadlock</h1>\n<pre>",
             front: "",
             middle: " ",
             back: "\n",
             foot: "</pre>\n</body>\n</html>\n",
         },
-        Form::Object => Marks {
+        Form::Object => CountMarks {
             begin: "{\"answer\":\"no deadlock\",\"status\":0",
             front: ",\"",
             middle: "\":",
@@ -81,26 +81,26 @@ fn marks_of(form: Form) -> Marks
 
 /// A number, and what it is the number of.
 #[derive(Clone, Copy)]
-pub struct Count {
+pub struct NamedCount {
     name: &'static str,
     number: usize,
 }
 
 /// The numbers of a program's size.
-fn size_counts(program: &LongProgram) -> [Count; 3]
+fn size_counts(program: &LongProgram) -> [NamedCount; 3]
     ensures { AreLinesOfCounts result (λ m. size_lines m program.now) }
 {
     let calls = program.calls();
     [
-        Count {
+        NamedCount {
             name: "ranks",
             number: program.ranks() as usize,
         },
-        Count {
+        NamedCount {
             name: "calls",
             number: calls.len(),
         },
-        Count {
+        NamedCount {
             name: "messages",
             number: messages(calls),
         },
@@ -108,22 +108,22 @@ fn size_counts(program: &LongProgram) -> [Count; 3]
 }
 
 /// How many wildcards have a choice.
-fn choice_count(calls: &[Call]) -> Count
+fn choice_count(calls: &[Call]) -> NamedCount
     ensures { IsLineOfCount result (λ m. count_line m (codes "wildcards with a choice") (wildcards_with_choice calls.now)) }
 {
-    Count {
+    NamedCount {
         name: "wildcards with a choice",
         number: choices(calls),
     }
 }
 
 /// How many wildcards have a choice, or of many calls how many there are.
-fn wildcard_count(program: &LongProgram) -> Count
+fn wildcard_count(program: &LongProgram) -> NamedCount
     ensures { IsLineOfCount result (λ m. wildcard_line m program.now) }
 {
     let calls = program.calls();
     if calls.len() > FEW_CALLS {
-        Count {
+        NamedCount {
             name: "wildcards",
             number: wildcards(calls),
         }
@@ -133,47 +133,47 @@ fn wildcard_count(program: &LongProgram) -> Count
 }
 
 /// How many sends the policy leaves open.
-fn open_count(program: &LongProgram) -> Count
+fn open_count(program: &LongProgram) -> NamedCount
     ensures { IsLineOfCount result (λ m. open_line m program.now) }
 {
-    Count {
+    NamedCount {
         name: "sends that may be buffered or not",
         number: open_sends(program.policy(), program.calls()),
     }
 }
 
 /// The numbers of what a program leaves open.
-fn choice_counts(program: &LongProgram) -> [Count; 2]
+fn choice_counts(program: &LongProgram) -> [NamedCount; 2]
     ensures { AreLinesOfCounts result (λ m. choice_lines m program.now) }
 {
     [choice_count(program.calls()), open_count(program)]
 }
 
 /// The same, where there may be too many calls to tell choices.
-fn wildcard_counts(program: &LongProgram) -> [Count; 2]
+fn wildcard_counts(program: &LongProgram) -> [NamedCount; 2]
     ensures { AreLinesOfCounts result (λ m. wildcard_line m program.now ++ open_line m program.now) }
 {
     [wildcard_count(program), open_count(program)]
 }
 
 /// The numbers of a refutation.
-fn claim_counts(refutation: &Refutation) -> [Count; 4]
+fn claim_counts(refutation: &Refutation) -> [NamedCount; 4]
     ensures { AreLinesOfCounts result (λ m. claim_lines m refutation.now) }
 {
     [
-        Count {
+        NamedCount {
             name: "variables",
             number: refutation.variables() as usize,
         },
-        Count {
+        NamedCount {
             name: "clauses",
             number: refutation.clauses() as usize,
         },
-        Count {
+        NamedCount {
             name: "lines",
             number: refutation.lines().len(),
         },
-        Count {
+        NamedCount {
             name: "leaves",
             number: leaves(refutation.tree().nodes()),
         },
@@ -184,8 +184,8 @@ fn claim_counts(refutation: &Refutation) -> [Count; 4]
 fn put_count(
     alloc: Global,
     out: &mut Vec<u8>,
-    marks: &Marks,
-    count: Count,
+    marks: &CountMarks,
+    count: NamedCount,
 ) -> Result<(), AllocError>
     ensures { OnOk result (out.new.items ≡ out.old.items ++ line_of_count (texts_of marks.now) count) }
 {
@@ -207,8 +207,8 @@ fn put_count(
 fn put_counts(
     alloc: Global,
     out: &mut Vec<u8>,
-    marks: &Marks,
-    counts: &[Count],
+    marks: &CountMarks,
+    counts: &[NamedCount],
 ) -> Result<(), AllocError>
     ensures { OnOk result (out.new.items ≡ out.old.items ++ lines_of (texts_of marks.now) counts.now) }
 {
@@ -221,10 +221,10 @@ fn put_counts(
 /// The text, with these marks, of the numbers of a program's size, and of others.
 fn marked_text(
     alloc: Global,
-    marks: &Marks,
-    sizes: &[Count],
-    choices: &[Count],
-    claim: &[Count],
+    marks: &CountMarks,
+    sizes: &[NamedCount],
+    choices: &[NamedCount],
+    claim: &[NamedCount],
 ) -> Result<Vec<u8>, AllocError>
     ensures { IfOk result (λ text. text.items ≡ marked_text (texts_of marks.now) sizes.now wildcards_with_choice.now claim.now) }
 {

@@ -1,26 +1,26 @@
 //! What decided a run, for an object.
 
 use crate::telling::Asked;
-use choices::{Decided, Extent, Need, Taken, Weighed};
+use choices::{Decided, HangExtent, ChoiceNeed, ChoiceTaken, Weighed};
 use explain_json::{Decider, Deciders};
 use std::alloc::{AllocError, Global};
 
 /// What is told of all choices together.
-fn extent_words(extent: Extent) -> &'static str {
+fn extent_words(extent: HangExtent) -> &'static str {
     match extent {
-        Extent::Always => "hangs in every run that was tried",
-        Extent::Whenever => "hangs in every run that was tried where all of these are so",
-        Extent::NotFound => "no choices were found that suffice",
+        HangExtent::Always => "hangs in every run that was tried",
+        HangExtent::Whenever => "hangs in every run that was tried where all of these are so",
+        HangExtent::NotFound => "no choices were found that suffice",
     }
 }
 
 /// What is told of a choice's other ways.
-fn verdict(need: Need) -> &'static str {
+fn verdict(need: ChoiceNeed) -> &'static str {
     match need {
-        Need::Known => "without it no run hangs (proved)",
-        Need::Tried => "no run that hangs without it was found",
-        Need::No => "may hang otherwise too",
-        Need::NotAsked => "not asked whether it may hang otherwise",
+        ChoiceNeed::Known => "without it no run hangs (proved)",
+        ChoiceNeed::Tried => "no run that hangs without it was found",
+        ChoiceNeed::No => "may hang otherwise too",
+        ChoiceNeed::NotAsked => "not asked whether it may hang otherwise",
     }
 }
 
@@ -28,9 +28,9 @@ fn verdict(need: Need) -> &'static str {
 fn decider_of(weighed: &Weighed) -> Decider {
     let choice = &weighed.choice;
     let (kind, source, tag) = match choice.taken {
-        Taken::Buffered => ("buffered", None, None),
-        Taken::NotBuffered => ("not buffered", None, None),
-        Taken::Message { source, tag } => ("finds", Some(source), Some(tag)),
+        ChoiceTaken::Buffered => ("buffered", None, None),
+        ChoiceTaken::NotBuffered => ("not buffered", None, None),
+        ChoiceTaken::Message { source, tag } => ("finds", Some(source), Some(tag)),
     };
     Decider {
         kind,

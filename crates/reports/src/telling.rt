@@ -14,7 +14,7 @@ use callorder::LongProgram;
 use calltext::LongSource;
 use charts::{chart, picture};
 use checker::{NoRun, Reason, program_of};
-use choices::{Decided, Limits, decide, decide_run, told};
+use choices::{Decided, AskingLimits, decide, decide_run, told};
 use explain::{explanation, messages, wait_graph};
 use explain_json::object_text;
 use finishing::frequency_of_program;
@@ -37,8 +37,8 @@ const FEW_CALLS_OF_A_FORMULA: usize = 256;
 const CONFLICTS: u64 = 20_000;
 
 /// How much is asked about what decided a run.
-fn limits() -> Limits {
-    Limits {
+fn limits() -> AskingLimits {
+    AskingLimits {
         walks: 4_000,
         ways: 64,
         search: Options::make(1, 0, 2_000).unwrap_or(Options::default()),

@@ -7,7 +7,7 @@ use Rattle.std.proofs.lemmas.List.Folds.{list_any-append, list_all-append}
 use Rattle.callorder.specs.Programs.{MpiProgram, are_fit, is_probe, takes, sees, are_of_one_rank}
 use Rattle.candidates.specs.Pairs.{places, takers_of}
 use Rattle.nonovertake.specs.Earlier.{earlier_sends, earlier_takers}
-use Rattle.formula.specs.declared.facts.Event.TheVariants.{Issue as issue_of, Match as match_of}
+use Rattle.formula.specs.declared.facts.RunEvent.TheVariants.{Issue as issue_of, Match as match_of}
 use Rattle.formula.specs.declared.facts.Fact.TheVariants.{Issued as issued, Matched as matched, Unfinished as unfinished}
 use Rattle.formula.specs.declared.facts.Statement.TheVariants.{Holds as is_true, Fails as is_false, Earlier as is_earlier}
 use Rattle.formula.specs.declared.facts.Condition.TheVariants.{IfMatched as if_matched}

@@ -5,8 +5,8 @@ use Rattle.std.proofs.lemmas.Bool.{eqb-true, eq-eqb}
 use Rattle.std.proofs.lemmas.Bool.Decides.{nat_tests}
 use Rattle.callorder.specs.Programs.{MpiProgram}
 use Rattle.candidates.specs.Pairs.{places}
-use Rattle.formula.specs.declared.facts.Event.{Event}
-use Rattle.formula.specs.declared.facts.Event.TheVariants.{Issue as issue_of, Match as match_of}
+use Rattle.formula.specs.declared.facts.RunEvent.{RunEvent}
+use Rattle.formula.specs.declared.facts.RunEvent.TheVariants.{Issue as issue_of, Match as match_of}
 use Rattle.formula.specs.Facts.{is_same_event}
 use Rattle.formula.specs.Families.{events, finds_message}
 use Rattle.formula.proofs.Elements.{Each, each_append, each_map, each_from, each_mono, each_filter, each_range, and_both, any_append_left, any_append_right, any_map, any_filter, any_mono, any_range}
@@ -17,12 +17,12 @@ use Rattle.run_from_formula.proofs.Sorted.{any_sorted, each_sorted, IsOnce, once
 -- ---- the events of a program
 
 -- the event is one of the program
-abbrev pub IsListed : MpiProgram → Event → Type 0
+abbrev pub IsListed : MpiProgram → RunEvent → Type 0
 IsListed p (issue_of c) = c < length p.calls
 IsListed p (match_of t) = (t < length p.calls) × (finds_message p t ≡ true)
 
 -- the event stands in the list
-abbrev pub is_in : List Event → Event → Bool
+abbrev pub is_in : List RunEvent → RunEvent → Bool
 is_in es e = list_any (is_same_event e) es
 
 all_listed : (p : MpiProgram) → Each (IsListed p) (events p)
@@ -33,7 +33,7 @@ all_listed p =
     (each_filter (λ t. IsListed p (match_of t)) (finds_message p) (places p)
     (each_range (λ t. finds_message p t ≡ true → IsListed p (match_of t)) 0 (length p.calls) (λ k from below taker. (omega (arith, below), taker)))))
 
-listed_in : (p : MpiProgram) (e : Event) → IsListed p e → is_in (events p) e ≡ true
+listed_in : (p : MpiProgram) (e : RunEvent) → IsListed p e → is_in (events p) e ≡ true
 listed_in p (issue_of c) below =
     any_append_left (is_same_event (issue_of c)) (map issue_of (places p)) (map match_of (filter (finds_message p) (places p)))
     (any_map (is_same_event (issue_of c)) issue_of (places p) ∙
@@ -44,7 +44,7 @@ listed_in p (match_of t) listed =
     (any_filter (λ d. t == d) (finds_message p) (places p) ∙
     any_range (λ d. finds_message p d && t == d) 0 (length p.calls) t (omega arith) (omega (arith, listed.0)) (and_both (finds_message p t) (t == t) listed.1 (eq-eqb t t refl))))
 
-pub same_event : (e f : Event) → is_same_event e f ≡ true → e ≡ f
+pub same_event : (e f : RunEvent) → is_same_event e f ≡ true → e ≡ f
 same_event (issue_of c) (issue_of d) h = ap issue_of (eqb-true c d h)
 same_event (match_of c) (match_of d) h = ap match_of (eqb-true c d h)
 same_event (issue_of c) (match_of d) h = absurd (cc)
@@ -53,7 +53,7 @@ same_event (match_of c) (issue_of d) h = absurd (cc)
 equal_either : (a b : ℕ) → (a == b) ≡ (b == a)
 equal_either a b = grind (arith, nat_tests)
 
-same_either : (e f : Event) → is_same_event e f ≡ is_same_event f e
+same_either : (e f : RunEvent) → is_same_event e f ≡ is_same_event f e
 same_either (issue_of c) (issue_of d) = equal_either c d
 same_either (match_of c) (match_of d) = equal_either c d
 same_either (issue_of c) (match_of d) = refl
@@ -97,11 +97,11 @@ events_once p =
 -- ---- the events that happen, by clock
 
 -- the events that happen, by clock
-abbrev pub by_clock : MpiProgram → World → List Event
+abbrev pub by_clock : MpiProgram → World → List RunEvent
 by_clock p world = sorted_by world.clock (filter (happens p world) (events p))
 
 -- the event is one of the program and happens in the world
-pub record Happens (p : MpiProgram) (world : World) (e : Event) : Type 0 where
+pub record Happens (p : MpiProgram) (world : World) (e : RunEvent) : Type 0 where
   pub listed : IsListed p e
   pub does : happens p world e ≡ true
 
@@ -116,23 +116,23 @@ each_once p world =
     once_sorted is_same_event world.clock same_either (filter (happens p world) (events p)) (once_kept is_same_event (happens p world) (events p) (events_once p))
 
 -- an event that happens stands in the list
-pub found_by_clock : (p : MpiProgram) (world : World) (e : Event) → IsListed p e → happens p world e ≡ true → is_in (by_clock p world) e ≡ true
+pub found_by_clock : (p : MpiProgram) (world : World) (e : RunEvent) → IsListed p e → happens p world e ≡ true → is_in (by_clock p world) e ≡ true
 found_by_clock p world e listed does =
     any_sorted world.clock (is_same_event e) (filter (happens p world) (events p)) ∙
     (any_filter (is_same_event e) (happens p world) (events p) ∙
     any_mono (λ f. happens p world f && is_same_event e f) (is_same_event e)
-    (λ f h. and_both (happens p world f) (is_same_event e f) (subst (λ (z : Event). happens p world z ≡ true) (same_event e f h) does) h) (events p) (listed_in p e listed))
+    (λ f h. and_both (happens p world f) (is_same_event e f) (subst (λ (z : RunEvent). happens p world z ≡ true) (same_event e f h) does) h) (events p) (listed_in p e listed))
 
 -- ---- what is left when an event's turn has come
 
-apart : (world : World) (e f y : Event) (b : Bool) → is_same_event f y ≡ b → world.clock e ≤ world.clock y → world.clock f < world.clock e → b ≡ false
+apart : (world : World) (e f y : RunEvent) (b : Bool) → is_same_event f y ≡ b → world.clock e ≤ world.clock y → world.clock f < world.clock e → b ≡ false
 apart world e f y false same later earlier = refl
 apart world e f y true same later earlier =
     let is : world.clock f ≡ world.clock y = ap world.clock (same_event f y same) in
     absurd (omega (arith, is, later, earlier))
 
 -- an event with a smaller clock isn't among those that are left
-pub not_left : (world : World) (e f : Event) (rest : List Event) → Each (λ y. world.clock e ≤ world.clock y) rest → world.clock f < world.clock e → is_in rest f ≡ false
+pub not_left : (world : World) (e f : RunEvent) (rest : List RunEvent) → Each (λ y. world.clock e ≤ world.clock y) rest → world.clock f < world.clock e → is_in rest f ≡ false
 not_left world e f [] later earlier = refl
 not_left world e f (y ∷ rest) later earlier =
     false_or (is_same_event f y) (is_in rest f) (apart world e f y (is_same_event f y) refl later.0 earlier) (not_left world e f rest later.1 earlier)

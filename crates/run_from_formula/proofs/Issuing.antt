@@ -16,8 +16,8 @@ use Rattle.callorder.specs.Calls.{both_hold, holds_of, fits}
 use Rattle.semantics.specs.declared.state.Step.TheVariants.{Issue}
 use Rattle.semantics.specs.Machine.{Configuration, first_call, after, is_issued, is_issued_call, is_buffered, has_returned_before, may_be, can_issue, can_issue_next, can_issue_call}
 use Rattle.semantics.proofs.Lengths.{Issues}
-use Rattle.formula.specs.declared.facts.Event.{Event}
-use Rattle.formula.specs.declared.facts.Event.TheVariants.{Issue as issue_of}
+use Rattle.formula.specs.declared.facts.RunEvent.{RunEvent}
+use Rattle.formula.specs.declared.facts.RunEvent.TheVariants.{Issue as issue_of}
 use Rattle.formula.specs.declared.facts.Fact.TheVariants.{Issued as issued, Buffered as buffered}
 use Rattle.formula.specs.Families.{is_standard, is_standard_call, is_standard_kind, buffered_under}
 use Rattle.formula.proofs.Elements.{Each, and_both, or_left, or_right}
@@ -61,7 +61,7 @@ other_issued m r c d b (Some x) within at differ =
       | inr apart ↦ ap (nat_lt d) (get_or-set_other m.next r x.rank (slice_index m.next r + 1) 0 apart)
     ]
 
-module _ (p : MpiProgram) (world : World) (is : IsProgram p) (says : Consequences p world) (m : Configuration) (rest : List Event) (c : ℕ) (call : Call) (there : call_at p c ≡ Some call) (does : world.has (issued c) ≡ true) (stage : IsStage p world m (issue_of c ∷ rest)) (later : Each (λ y. world.clock (issue_of c) ≤ world.clock y) rest) where
+module _ (p : MpiProgram) (world : World) (is : IsProgram p) (says : Consequences p world) (m : Configuration) (rest : List RunEvent) (c : ℕ) (call : Call) (there : call_at p c ≡ Some call) (does : world.has (issued c) ≡ true) (stage : IsStage p world m (issue_of c ∷ rest)) (later : Each (λ y. world.clock (issue_of c) ≤ world.clock y) rest) where
   not_yet : is_issued p m c ≡ false
   not_yet =
       stage.issues c (slice_get_within p.calls c call there) ∙

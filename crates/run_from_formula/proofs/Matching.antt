@@ -12,8 +12,8 @@ use Rattle.semantics.specs.declared.state.Step.TheVariants.{Match, See}
 use Rattle.semantics.specs.Machine.{Configuration, CanFind, CanMatch, CanSee, after, is_issued_call, partner_of}
 use Rattle.run_laws.proofs.Matched.{no_send_is_taker}
 use Rattle.run_laws.proofs.Descent.{takes_fit}
-use Rattle.formula.specs.declared.facts.Event.{Event}
-use Rattle.formula.specs.declared.facts.Event.TheVariants.{Match as match_of}
+use Rattle.formula.specs.declared.facts.RunEvent.{RunEvent}
+use Rattle.formula.specs.declared.facts.RunEvent.TheVariants.{Match as match_of}
 use Rattle.formula.specs.declared.facts.Fact.TheVariants.{Matched as matched}
 use Rattle.formula.specs.Families.{sends_of}
 use Rattle.formula.proofs.Elements.{Each, and_both, or_left}
@@ -67,7 +67,7 @@ never_both : (b : Bool) → not b ≡ true → b ≡ true → ⊥
 never_both true h e = cc
 never_both false h e = cc
 
-module _ (p : MpiProgram) (world : World) (says : Consequences p world) (m : Configuration) (rest : List Event) (s t : ℕ) (fit : are_fit p s t ≡ true) (does : world.has (matched s t) ≡ true) (stage : IsStage p world m (match_of t ∷ rest)) (later : Each (λ y. world.clock (match_of t) ≤ world.clock y) rest) where
+module _ (p : MpiProgram) (world : World) (says : Consequences p world) (m : Configuration) (rest : List RunEvent) (s t : ℕ) (fit : are_fit p s t ≡ true) (does : world.has (matched s t) ≡ true) (stage : IsStage p world m (match_of t ∷ rest)) (later : Each (λ y. world.clock (match_of t) ≤ world.clock y) rest) where
   -- ---- it is enabled
 
   left_here : is_in (match_of t ∷ rest) (match_of t) ≡ true
@@ -113,7 +113,7 @@ module _ (p : MpiProgram) (world : World) (says : Consequences p world) (m : Con
             unlike ∙ kept_out _ _ (λ h _. differ (says.one_send s u t fit fits does h))
       ]
 
-module _ (p : MpiProgram) (world : World) (says : Consequences p world) (m : Configuration) (rest : List Event) (s t : ℕ) (taken : takes p s t ≡ true) (does : world.has (matched s t) ≡ true) (stage : IsStage p world m (match_of t ∷ rest)) (later : Each (λ y. world.clock (match_of t) ≤ world.clock y) rest) where
+module _ (p : MpiProgram) (world : World) (says : Consequences p world) (m : Configuration) (rest : List RunEvent) (s t : ℕ) (taken : takes p s t ≡ true) (does : world.has (matched s t) ≡ true) (stage : IsStage p world m (match_of t ∷ rest)) (later : Each (λ y. world.clock (match_of t) ≤ world.clock y) rest) where
   fit : are_fit p s t ≡ true
   fit = takes_fit p s t taken
 
@@ -228,7 +228,7 @@ module _ (p : MpiProgram) (world : World) (says : Consequences p world) (m : Con
 
 -- ---- a see
 
-module _ (p : MpiProgram) (world : World) (says : Consequences p world) (m : Configuration) (rest : List Event) (s f : ℕ) (seen : sees p s f ≡ true) (does : world.has (matched s f) ≡ true) (stage : IsStage p world m (match_of f ∷ rest)) (later : Each (λ y. world.clock (match_of f) ≤ world.clock y) rest) where
+module _ (p : MpiProgram) (world : World) (says : Consequences p world) (m : Configuration) (rest : List RunEvent) (s f : ℕ) (seen : sees p s f ≡ true) (does : world.has (matched s f) ≡ true) (stage : IsStage p world m (match_of f ∷ rest)) (later : Each (λ y. world.clock (match_of f) ≤ world.clock y) rest) where
   see_fit : are_fit p s f ≡ true
   see_fit = (and_parts (are_fit p s f) (is_probe p f) seen).0
 

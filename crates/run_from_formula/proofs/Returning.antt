@@ -13,8 +13,8 @@ use Rattle.callorder.specs.ProgramRules.{IsProgram}
 use Rattle.callorder.specs.Programs.{MpiProgram, call_at, are_of_one_rank, is_probe, kind_holds, have_one_rank}
 use Rattle.semantics.specs.Machine.{Configuration, is_issued, is_buffered, is_fetched, partner_of, fetches, fetches_partner, is_returned}
 use Rattle.semantics.proofs.RankOrder.{one_rank_between}
-use Rattle.formula.specs.declared.facts.Event.{Event}
-use Rattle.formula.specs.declared.facts.Event.TheVariants.{Issue as issue_of, Match as match_of}
+use Rattle.formula.specs.declared.facts.RunEvent.{RunEvent}
+use Rattle.formula.specs.declared.facts.RunEvent.TheVariants.{Issue as issue_of, Match as match_of}
 use Rattle.formula.specs.declared.facts.Fact.TheVariants.{Issued as issued, Buffered as buffered}
 use Rattle.formula.specs.declared.facts.Statement.TheVariants.{Holds as is_true}
 use Rattle.formula.specs.declared.facts.Condition.{Condition}
@@ -122,7 +122,7 @@ fetched_from : (p : MpiProgram) (m : Configuration) (s t : ℕ) (call : Call) (k
 fetched_from p m s t call k partner there kind h =
     ap (holds_of (fetches_partner p m)) partner ∙ ap (kind_holds (fetches p m)) there ∙ ap (fetches p m) kind ∙ h
 
-module _ (p : MpiProgram) (world : World) (is : IsProgram p) (says : Consequences p world) (m : Configuration) (left : List Event) (c : ℕ) (stage : IsStage p world m left) (later : Each (λ y. world.clock (issue_of c) ≤ world.clock y) left) where
+module _ (p : MpiProgram) (world : World) (is : IsProgram p) (says : Consequences p world) (m : Configuration) (left : List RunEvent) (c : ℕ) (stage : IsStage p world m left) (later : Each (λ y. world.clock (issue_of c) ≤ world.clock y) left) where
   fetched_kind : (s : ℕ) (w : FetchedBefore p world c s) (call : Call) → call_at p w.taker ≡ Some call → (k : Kind ℕ) → call.kind ≡ k → is_fetched p m s ≡ true
   fetched_kind s w call there (Receive blocking pattern) kind =
       let none : receive_on_handle p w.taker ≡ None = ap receive_of_call there ∙ ap receive_of kind in

@@ -5,8 +5,8 @@ use Rattle.callorder.specs.ProgramRules.{IsProgram}
 use Rattle.callorder.specs.Programs.{MpiProgram, are_fit, is_probe, takes, sees}
 use Rattle.semantics.specs.declared.state.Step.TheVariants.{Issue}
 use Rattle.semantics.specs.Machine.{Configuration, IsEnabled, IsRun, IsStuckRun, opening, after, after_all, can_issue}
-use Rattle.formula.specs.declared.facts.Event.{Event}
-use Rattle.formula.specs.declared.facts.Event.TheVariants.{Issue as issue_of, Match as match_of}
+use Rattle.formula.specs.declared.facts.RunEvent.{RunEvent}
+use Rattle.formula.specs.declared.facts.RunEvent.TheVariants.{Issue as issue_of, Match as match_of}
 use Rattle.formula.specs.declared.facts.Fact.TheVariants.{Buffered as buffered, Matched as matched}
 use Rattle.formula.specs.Facts.{is_same_event}
 use Rattle.formula.specs.Families.{events, families, rank_of, rank_of_call, is_standard}
@@ -26,7 +26,7 @@ use Rattle.run_from_formula.proofs.Matching.{sender_is, match_enabled, stage_aft
 use Rattle.run_from_formula.proofs.Ends.{end_stuck}
 
 module _ (p : MpiProgram) (world : World) (is : IsProgram p) (says : Consequences p world) where
-  find : (m : Configuration) (t : ℕ) (rest : List Event) → are_fit p (sender_of p world t) t ≡ true → world.has (matched (sender_of p world t) t) ≡ true → IsStage p world m (match_of t ∷ rest) → Each (λ y. world.clock (match_of t) ≤ world.clock y) rest → is_in rest (match_of t) ≡ false → (b : Bool) → is_probe p t ≡ b → IsEnabled p m (find_step b (sender_of p world t) t) × IsStage p world (after m (find_step b (sender_of p world t) t)) rest
+  find : (m : Configuration) (t : ℕ) (rest : List RunEvent) → are_fit p (sender_of p world t) t ≡ true → world.has (matched (sender_of p world t) t) ≡ true → IsStage p world m (match_of t ∷ rest) → Each (λ y. world.clock (match_of t) ≤ world.clock y) rest → is_in rest (match_of t) ≡ false → (b : Bool) → is_probe p t ≡ b → IsEnabled p m (find_step b (sender_of p world t) t) × IsStage p world (after m (find_step b (sender_of p world t) t)) rest
   find m t rest fit does stage later once true e =
       let seen : sees p (sender_of p world t) t ≡ true = and_both _ _ fit e in
       (see_enabled p world says m rest (sender_of p world t) t seen does stage later, stage_after_see p world says m rest (sender_of p world t) t seen does stage later once)
@@ -35,7 +35,7 @@ module _ (p : MpiProgram) (world : World) (is : IsProgram p) (says : Consequence
       (match_enabled p world says m rest (sender_of p world t) t taken does stage later, stage_after_match p world says m rest (sender_of p world t) t taken does stage later once)
 
   -- a step whose turn has come is enabled, and leads to the next stage
-  turn : (m : Configuration) (e : Event) (rest : List Event) → Happens p world e → IsStage p world m (e ∷ rest) → Each (λ y. world.clock e ≤ world.clock y) rest → is_in rest e ≡ false → IsEnabled p m (step_of p world e) × IsStage p world (after m (step_of p world e)) rest
+  turn : (m : Configuration) (e : RunEvent) (rest : List RunEvent) → Happens p world e → IsStage p world m (e ∷ rest) → Each (λ y. world.clock e ≤ world.clock y) rest → is_in rest e ≡ false → IsEnabled p m (step_of p world e) × IsStage p world (after m (step_of p world e)) rest
   turn m (issue_of c) rest happens stage later once =
       let call = there_within p.calls c happens.listed in
       let rank : call.0.rank ≡ rank_of p c = ap rank_of_call (sym call.1) in
@@ -47,7 +47,7 @@ module _ (p : MpiProgram) (world : World) (is : IsProgram p) (says : Consequence
       let sender = sender_is p world t happens.does in
       find m t rest sender.1 sender.0 stage later once (is_probe p t) refl
 
-  turns : (m : Configuration) (left : List Event) → Each (Happens p world) left → Rises world.clock left → IsOnce is_same_event left → IsStage p world m left → IsRun p m (map (step_of p world) left) × IsStage p world (after_all m (map (step_of p world) left)) []
+  turns : (m : Configuration) (left : List RunEvent) → Each (Happens p world) left → Rises world.clock left → IsOnce is_same_event left → IsStage p world m left → IsRun p m (map (step_of p world) left) × IsStage p world (after_all m (map (step_of p world) left)) []
   turns m [] happens rises once stage = (tt, stage)
   turns m (e ∷ rest) happens rises once stage =
       let first = turn m e rest happens.0 stage rises.0 once.0 in

@@ -15,8 +15,8 @@ use Rattle.semantics.specs.Machine.{Configuration, first_call, opening, is_issue
 use Rattle.semantics.proofs.Runs.{IsConfigurationOf-opening}
 use Rattle.run_laws.proofs.Issued.{issued_before}
 use Rattle.candidates.specs.Pairs.{places}
-use Rattle.formula.specs.declared.facts.Event.{Event}
-use Rattle.formula.specs.declared.facts.Event.TheVariants.{Issue as issue_of, Match as match_of}
+use Rattle.formula.specs.declared.facts.RunEvent.{RunEvent}
+use Rattle.formula.specs.declared.facts.RunEvent.TheVariants.{Issue as issue_of, Match as match_of}
 use Rattle.formula.specs.declared.facts.Fact.TheVariants.{Issued as issued, Buffered as buffered, Matched as matched}
 use Rattle.formula.specs.Families.{is_standard, finds_message, call_finds_message}
 use Rattle.formula.proofs.Elements.{Each, and_both, any_filter, any_range}
@@ -30,7 +30,7 @@ use Rattle.formula.specs.Facts.{is_same_event}
 
 -- What is issued, buffered and matched is what the world says of the events that aren't left. Each
 -- rank has gone through its own calls alone.
-pub record IsStage (p : MpiProgram) (world : World) (m : Configuration) (left : List Event) : Type 0 where
+pub record IsStage (p : MpiProgram) (world : World) (m : Configuration) (left : List RunEvent) : Type 0 where
   pub size : IsConfigurationOf p m
   pub started : (r : ℕ) → r < p.ranks → first_call p r ≤ slice_index m.next r
   pub own : (r k : ℕ) → r < p.ranks → first_call p r ≤ k → k < slice_index m.next r → is_of_rank (call_at p k) r ≡ true
@@ -39,7 +39,7 @@ pub record IsStage (p : MpiProgram) (world : World) (m : Configuration) (left : 
   pub sends : (s t : ℕ) → takes p s t ≡ true → is_that (partner_of m s) t ≡ (world.has (matched s t) && not (is_in left (match_of t)))
   pub takers : (s t : ℕ) → are_fit p s t ≡ true → is_that (partner_of m t) s ≡ (world.has (matched s t) && not (is_in left (match_of t)))
   pub fits : (x y : ℕ) → partner_of m x ≡ Some y → (takes p x y ≡ true) ⊎ (are_fit p y x ≡ true)
-  pub done : (e : Event) → IsListed p e → happens p world e ≡ true → is_in left e ≡ false → Each (λ y. world.clock e ≤ world.clock y) left
+  pub done : (e : RunEvent) → IsListed p e → happens p world e ≡ true → is_in left e ≡ false → Each (λ y. world.clock e ≤ world.clock y) left
 
 -- ---- pairs that fit
 
@@ -121,7 +121,7 @@ still true true e f = absurd (cc)
 still true false e f = refl
 still false b e f = absurd (cc)
 
-module _ (p : MpiProgram) (world : World) (m : Configuration) (left : List Event) (e : Event) (stage : IsStage p world m left) (later : Each (λ y. world.clock e ≤ world.clock y) left) where
+module _ (p : MpiProgram) (world : World) (m : Configuration) (left : List RunEvent) (e : RunEvent) (stage : IsStage p world m left) (later : Each (λ y. world.clock e ≤ world.clock y) left) where
   pub issued_by : (c : ℕ) → c < length p.calls → world.has (issued c) ≡ true → world.clock (issue_of c) < world.clock e → is_issued p m c ≡ true
   issued_by c below i earlier = stage.issues c below ∙ still _ _ i (not_left world e (issue_of c) left later earlier)
 
@@ -133,11 +133,11 @@ module _ (p : MpiProgram) (world : World) (m : Configuration) (left : List Event
 
 -- ---- what has happened is no later than what is left
 
-done_step : (world : World) (head e : Event) (rest : List Event) (b : Bool) → is_same_event e head ≡ b → Each (λ y. world.clock head ≤ world.clock y) rest → (is_in (head ∷ rest) e ≡ false → Each (λ y. world.clock e ≤ world.clock y) (head ∷ rest)) → is_in rest e ≡ false → Each (λ y. world.clock e ≤ world.clock y) rest
+done_step : (world : World) (head e : RunEvent) (rest : List RunEvent) (b : Bool) → is_same_event e head ≡ b → Each (λ y. world.clock head ≤ world.clock y) rest → (is_in (head ∷ rest) e ≡ false → Each (λ y. world.clock e ≤ world.clock y) (head ∷ rest)) → is_in rest e ≡ false → Each (λ y. world.clock e ≤ world.clock y) rest
 done_step world head e rest true same later done out =
-    subst (λ (z : Event). Each (λ y. world.clock z ≤ world.clock y) rest) (sym (same_event e head same)) later
+    subst (λ (z : RunEvent). Each (λ y. world.clock z ≤ world.clock y) rest) (sym (same_event e head same)) later
 done_step world head e rest false same later done out = (done (ap (λ (b : Bool). b || is_in rest e) same ∙ out)).1
 
-pub done_then : (p : MpiProgram) (world : World) (m : Configuration) (head : Event) (rest : List Event) → IsStage p world m (head ∷ rest) → Each (λ y. world.clock head ≤ world.clock y) rest → (e : Event) → IsListed p e → happens p world e ≡ true → is_in rest e ≡ false → Each (λ y. world.clock e ≤ world.clock y) rest
+pub done_then : (p : MpiProgram) (world : World) (m : Configuration) (head : RunEvent) (rest : List RunEvent) → IsStage p world m (head ∷ rest) → Each (λ y. world.clock head ≤ world.clock y) rest → (e : RunEvent) → IsListed p e → happens p world e ≡ true → is_in rest e ≡ false → Each (λ y. world.clock e ≤ world.clock y) rest
 done_then p world m head rest stage later e listed does out =
     done_step world head e rest (is_same_event e head) refl later (stage.done e listed does) out

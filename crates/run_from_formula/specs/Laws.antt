@@ -7,7 +7,7 @@ use Rattle.callorder.specs.Programs.{MpiProgram}
 use Rattle.semantics.specs.declared.state.Step.{Step}
 use Rattle.semantics.specs.Machine.{IsStuckRun}
 use Rattle.clauses.specs.Clauses.{TruthAssignment, satisfies}
-use Rattle.formula.specs.declared.facts.Event.{Event}
+use Rattle.formula.specs.declared.facts.RunEvent.{RunEvent}
 use Rattle.formula.specs.Families.{events, families}
 use Rattle.formula.specs.Numbering.{formula_of}
 use Rattle.formula_from_run.specs.Worlds.{World, clauses_hold}
@@ -19,9 +19,9 @@ use Rattle.run_from_formula.specs.Schedules.{happens, sorted_by, schedule_of, wo
 abbrev pub SchedulesAreByClock : Type 0
 SchedulesAreByClock =
     (p : MpiProgram) (world : World)
-    → AllPairs (λ (e f : Event). world.clock e ≤ world.clock f) (sorted_by world.clock (filter (happens p world) (events p)))
-    × ((k : ℕ) → filter (λ (e : Event). world.clock e == k) (sorted_by world.clock (filter (happens p world) (events p)))
-    ≡ filter (λ (e : Event). world.clock e == k) (filter (happens p world) (events p)))
+    → AllPairs (λ (e f : RunEvent). world.clock e ≤ world.clock f) (sorted_by world.clock (filter (happens p world) (events p)))
+    × ((k : ℕ) → filter (λ (e : RunEvent). world.clock e == k) (sorted_by world.clock (filter (happens p world) (events p)))
+    ≡ filter (λ (e : RunEvent). world.clock e == k) (filter (happens p world) (events p)))
 
 -- The schedule of a world in which the clauses of all families of a program hold is a stuck run of
 -- the program.

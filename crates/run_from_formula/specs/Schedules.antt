@@ -6,8 +6,8 @@ use Rattle.semantics.specs.declared.state.Step.{Step}
 use Rattle.semantics.specs.declared.state.Step.TheVariants.{Issue}
 use Rattle.run_laws.specs.Places.{find_step}
 use Rattle.clauses.specs.Clauses.{TruthAssignment}
-use Rattle.formula.specs.declared.facts.Event.{Event}
-use Rattle.formula.specs.declared.facts.Event.TheVariants.{Issue as issue_of, Match as match_of}
+use Rattle.formula.specs.declared.facts.RunEvent.{RunEvent}
+use Rattle.formula.specs.declared.facts.RunEvent.TheVariants.{Issue as issue_of, Match as match_of}
 use Rattle.formula.specs.declared.facts.Fact.TheVariants.{Issued as issued, Buffered as buffered, Matched as matched}
 use Rattle.formula.specs.declared.facts.Meaning.TheVariants.{OfFact as fact}
 use Rattle.formula.specs.Families.{events, place_of_event, rank_of, is_standard, sends_of}
@@ -19,7 +19,7 @@ use Rattle.formula_from_run.specs.Worlds.{World}
 
 -- the event happens in the world: the call is issued, or the taker is matched with some send that
 -- fits it
-abbrev pub happens : MpiProgram → World → Event → Bool
+abbrev pub happens : MpiProgram → World → RunEvent → Bool
 happens p world (issue_of c) = world.has (issued c)
 happens p world (match_of t) = list_any (λ s. world.has (matched s t)) (sends_of p t)
 
@@ -29,7 +29,7 @@ sender_of p world t = get_or (filter (λ s. world.has (matched s t)) (sends_of p
 
 -- the step that an event is: a send in standard mode is buffered where the world says so, no other
 -- call is
-abbrev pub step_of : MpiProgram → World → Event → Step
+abbrev pub step_of : MpiProgram → World → RunEvent → Step
 step_of p world (issue_of c) = Issue (rank_of p c) (is_standard p c && world.has (buffered c))
 step_of p world (match_of t) = find_step (is_probe p t) (sender_of p world t) t
 

@@ -9,7 +9,7 @@ use std::alloc::{AllocError, Global};
 
 /// A choice of a run. Its step and calls are named by their places, from 0.
 #[derive(Drop)]
-pub enum Choice {
+pub enum RunChoice {
     /// The send was buffered, which the policy leaves open.
     Buffered {
         step: usize,
@@ -95,7 +95,7 @@ fn found_by(
     step: usize,
     send: usize,
     finder: usize,
-) -> Result<Option<Choice>, AllocError> {
+) -> Result<Option<RunChoice>, AllocError> {
     if !is_wildcard(program, finder) {
         return Ok(None);
     }
@@ -103,7 +103,7 @@ fn found_by(
     if rivals.is_empty() {
         return Ok(None);
     }
-    Ok(Some(Choice::Found {
+    Ok(Some(RunChoice::Found {
         step,
         send,
         finder,
@@ -118,7 +118,7 @@ fn choice_of(
     state: &State,
     place: usize,
     step: Step,
-) -> Result<Option<Choice>, AllocError> {
+) -> Result<Option<RunChoice>, AllocError> {
     match step {
         Step::Issue {
             rank,
@@ -126,7 +126,7 @@ fn choice_of(
         } if program.policy() == Policy::Any => Ok(
             state
                 .next_of(rank)
-                .map(|send| Choice::Buffered { step: place, send }),
+                .map(|send| RunChoice::Buffered { step: place, send }),
         ),
         Step::Issue { .. } => Ok(None),
         Step::Match { send, taker } => found_by(alloc, program, state, place, send, taker),
@@ -139,7 +139,7 @@ pub fn choices_of(
     alloc: Global,
     program: &LongProgram,
     steps: &[Step],
-) -> Result<Vec<Choice>, AllocError>
+) -> Result<Vec<RunChoice>, AllocError>
     requires { IsRun program.now (opening program.now) steps.now }
 {
     let mut choices = Vec::new(alloc);

@@ -18,7 +18,7 @@ mod sizes;
 mod words;
 
 pub use acts::{Act, Played, play};
-pub use choices::{Choice, choices_of};
+pub use choices::{RunChoice, choices_of};
 pub use ending::{MOST_OF_LARGE, Scene, scene_of};
 pub use labels::{CallLabel, call_labels, shortened};
 pub use needs::needed;

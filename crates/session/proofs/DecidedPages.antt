@@ -5,7 +5,7 @@ use Rattle.semantics.specs.Headline.{IsNeverStuckWithin, IsStuckRunWithin}
 use Rattle.semantics.specs.declared.state.Step.{Step}
 use Rattle.deciding.specs.Decisions.{HasRace}
 use Rattle.deciding.specs.Schedules.{schedule_text}
-use Rattle.deciding.specs.declared.decision.Race.{Race}
+use Rattle.deciding.specs.declared.decision.CallerRace.{CallerRace}
 use Rattle.deciding.specs.declared.decision.Decision.TheVariants as decisions
 use Rattle.deciding.specs.declared.texts.Undecided.{Undecided}
 use Rattle.deciding.specs.declared.texts.Undecided.TheVariants as undecided
@@ -68,7 +68,7 @@ decided_safe tells before after p out json text status program (given, Err why, 
 
 -- one with the status 2 is of a program with a race
 pub decided_race : (tells : Bool) (before after : List ℕ → Option (List ℕ)) (p : List ℕ) (out : Option (List ℕ)) (json : Bool) (text : List ℕ) (program : List ℕ)
-    → IsDecidedPage tells before after p out json text 2 → before p ≡ Some program → (race : Race) × HasRace program race
+    → IsDecidedPage tells before after p out json text 2 → before p ≡ Some program → (race : CallerRace) × HasRace program race
 decided_race tells before after p out json text program (given, Ok decisions.NoDeadlock, all, is, scheduled, page) held = absurd (omega (arith, page.3))
 decided_race tells before after p out json text program (given, Ok (decisions.Deadlock steps), all, is, scheduled, page) held = absurd (omega (arith, page.3))
 decided_race tells before after p out json text program (given, Ok (decisions.Race race), all, is, scheduled, page) held =

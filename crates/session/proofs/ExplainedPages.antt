@@ -9,7 +9,7 @@ use Rattle.semantics.specs.declared.state.Step.{Step}
 use Rattle.deciding.specs.Decisions.{HasRace, IsDecided}
 use Rattle.deciding.specs.declared.decision.Decision.{Decision}
 use Rattle.deciding.specs.declared.decision.Decision.TheVariants as decisions
-use Rattle.deciding.specs.declared.decision.Race.{Race}
+use Rattle.deciding.specs.declared.decision.CallerRace.{CallerRace}
 use Rattle.deciding.specs.declared.texts.Undecided.{Undecided}
 use Rattle.checker.specs.Headline.{IsNeverStuck, Shows}
 use Rattle.checker.specs.declared.reason.Reason.{Reason}
@@ -34,7 +34,7 @@ never_long program is = record { p = is.p; text = wide program is.p is.text; nev
 
 -- ---- the page of an answer
 
-answer_shows : (form : Form) (program : List ℕ) (race : Race) (a : Answer) (text : List ℕ) (status : ℕ) → IsAnswerPage form program race a text status
+answer_shows : (form : Form) (program : List ℕ) (race : CallerRace) (a : Answer) (text : List ℕ) (status : ℕ) → IsAnswerPage form program race a text status
     → PageTells text status → (steps : List Step) × IsStuckRunWithin long program steps
 answer_shows form program race (answers.NoDeadlock evidence) text status page tells =
     shown_long program evidence (found_shows form program evidence text status page tells)
@@ -44,7 +44,7 @@ answer_shows form program race (answers.Unknown why) text status page tells =
     let other : told.Unknown why ≡ told.Deadlock = line_tells (told.Unknown why) (is_object form) text status page tells in absurd (unknown_differs why other)
 answer_shows form program race (answers.Refused reason) text status page tells = absurd (race_untold (is_object form) program race text status page tells)
 
-answer_never : (form : Form) (program : List ℕ) (race : Race) (a : Answer) (text : List ℕ) → IsAnswerPage form program race a text 0 → IsNeverStuckWithin long program
+answer_never : (form : Form) (program : List ℕ) (race : CallerRace) (a : Answer) (text : List ℕ) → IsAnswerPage form program race a text 0 → IsNeverStuckWithin long program
 answer_never form program race (answers.NoDeadlock evidence) text page = never_long program (found_never form program evidence text page)
 answer_never form program race (answers.Deadlock evidence) text page = never_long program (found_never form program evidence text page)
 answer_never form program race (answers.Unknown why) text page =
@@ -55,7 +55,7 @@ answer_never form program race (answers.Refused reason) text page = absurd (omeg
 abbrev FinishesOrRefused : List ℕ → Type 0
 FinishesOrRefused program = CanFinish program ⊎ ((reason : Reason) × IsAnswer program (answers.Refused reason))
 
-answer_page_finishes : (form : Form) (budget : ℕ) (program : List ℕ) (race : Race) (a : Answer) (text : List ℕ) → IsAnswerPage form program race a text 2 → 0 < budget
+answer_page_finishes : (form : Form) (budget : ℕ) (program : List ℕ) (race : CallerRace) (a : Answer) (text : List ℕ) → IsAnswerPage form program race a text 2 → 0 < budget
     → IsAnswer program a → FinishesIfUnknown budget program a → FinishesOrRefused program
 answer_page_finishes form budget program race (answers.Unknown why) text page some is finishes =
     inl (answer_finishes budget program (answers.Unknown why) (sym page.3) some finishes)
@@ -83,7 +83,7 @@ decision_never form budget program (Err why) text is page = absurd (omega (arith
 
 -- what the status 2 shows of a program
 abbrev IsUnknown : List ℕ → Type 0
-IsUnknown program = ((race : Race) × HasRace program race) × FinishesOrRefused program
+IsUnknown program = ((race : CallerRace) × HasRace program race) × FinishesOrRefused program
 
 decision_finishes : (form : Form) (budget : ℕ) (program : List ℕ) (d : Result Decision Undecided) (text : List ℕ) → IsDecided program d
     → IsDecisionExplained budget form program d text 2 → 0 < budget → IsUnknown program
@@ -113,7 +113,7 @@ given_never held path e budget form text program page holds =
 
 pub explained_finishes : (held : List ℕ → Option (List ℕ)) (path : List ℕ) (e : Option (List ℕ)) (budget : ℕ) (form : Form) (text program : List ℕ)
     → IsExplainPage held path e budget form text 2 → 0 < budget → held path ≡ Some program
-    → (e ≡ None) × ((race : Race) × HasRace program race) × (CanFinish program ⊎ ((reason : Reason) × IsAnswer program (answers.Refused reason)))
+    → (e ≡ None) × ((race : CallerRace) × HasRace program race) × (CanFinish program ⊎ ((reason : Reason) × IsAnswer program (answers.Refused reason)))
 explained_finishes held path None budget form text program page some holds =
     let known = subst IsUnknown (all_are (held path) page.0 program page.2 holds) (decision_finishes form budget page.0 page.1 text page.3 page.4 some) in
     (refl, known.0, known.1)

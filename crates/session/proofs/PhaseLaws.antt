@@ -7,7 +7,7 @@ use Rattle.semantics.specs.Headline.{IsNeverStuckWithin, IsStuckRunWithin}
 use Rattle.semantics.specs.declared.state.Step.{Step}
 use Rattle.deciding.specs.Decisions.{HasRace}
 use Rattle.deciding.specs.Schedules.{schedule_text}
-use Rattle.deciding.specs.declared.decision.Race.{Race}
+use Rattle.deciding.specs.declared.decision.CallerRace.{CallerRace}
 use Rattle.deciding.specs.declared.decision.Decision.TheVariants as decisions
 use Rattle.command_line.specs.Requests.{AskFor, Task}
 use Rattle.command_line.proofs.ReadTasks.{one_task_is_asked}
@@ -192,13 +192,13 @@ left_of run folder program text is appends = record {
 
 left_by : (run : SessionRun) (p folder : Text) (text program : List ℕ) → IsCutPage run.tells.writes run.before run.after p folder text 0
     → run.before p ≡ Some program → Appends run.out_before run.out_after text
-    → (IsNeverStuckWithin long program × (run.after ≡ run.before)) ⊎ ((race : Race) × HasRace program race × HasLeftCut run folder program)
+    → (IsNeverStuckWithin long program × (run.after ≡ run.before)) ⊎ ((race : CallerRace) × HasRace program race × HasLeftCut run folder program)
 left_by run p folder text program (given, Ok decisions.NoDeadlock, all, is, ends) held appends =
     inl (subst (IsNeverStuckWithin long) (all_are (run.before p) given program all held) is, ends.0)
 left_by run p folder text program (given, Ok (decisions.Deadlock steps), all, is, ends) held appends = absurd (omega (arith, ends.1.3))
 left_by run p folder text program (given, Ok (decisions.Race race), all, is, ends) held appends =
     inr
-    (subst (λ (bytes : List ℕ). (r : Race) × HasRace bytes r × HasLeftCut run folder bytes) (all_are (run.before p) given program all held)
+    (subst (λ (bytes : List ℕ). (r : CallerRace) × HasRace bytes r × HasLeftCut run folder bytes) (all_are (run.before p) given program all held)
     (race, is, left_of run folder given text ends appends))
 left_by run p folder text program (given, Err why, all, is, ends) held appends = absurd (omega (arith, ends.1.3, undecided_above why))
 

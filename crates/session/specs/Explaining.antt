@@ -5,7 +5,7 @@ use Rattle.files.specs.Contents.{AreAll}
 use Rattle.deciding.specs.Decisions.{IsDecided}
 use Rattle.deciding.specs.declared.decision.Decision.{Decision}
 use Rattle.deciding.specs.declared.decision.Decision.TheVariants as decisions
-use Rattle.deciding.specs.declared.decision.Race.{Race}
+use Rattle.deciding.specs.declared.decision.CallerRace.{CallerRace}
 use Rattle.deciding.specs.declared.texts.Undecided.{Undecided}
 use Rattle.deciding.specs.declared.texts.Undecided.TheVariants as undecided
 use Rattle.checker.specs.declared.reason.Reason.{Reason}
@@ -70,7 +70,7 @@ IsFoundPage form program evidence text status =
 -- the page of an answer of a search, whose evidence is explained, where it has one; else the line
 -- that tells that none is known; and of a program that is too large for a search, or refused for
 -- want of memory, the page of the race that one run told
-abbrev pub IsAnswerPage : Form → List ℕ → Race → Answer → List ℕ → ℕ → Type 0
+abbrev pub IsAnswerPage : Form → List ℕ → CallerRace → Answer → List ℕ → ℕ → Type 0
 IsAnswerPage form program race (answers.NoDeadlock evidence) text status = IsFoundPage form program evidence text status
 IsAnswerPage form program race (answers.Deadlock evidence) text status = IsFoundPage form program evidence text status
 IsAnswerPage form program race (answers.Unknown why) text status = IsLine (told.Unknown why) (is_object form) text status
@@ -79,7 +79,7 @@ IsAnswerPage form program race (answers.Refused reason) text status = IsRacePage
 -- the page of a program whose messages may race: that of an answer to it; and where none is known,
 -- for another reason than want of memory, and the budget was above 0, some run of the program
 -- finishes
-abbrev pub IsSearched : ℕ → Form → List ℕ → Race → List ℕ → ℕ → Type 0
+abbrev pub IsSearched : ℕ → Form → List ℕ → CallerRace → List ℕ → ℕ → Type 0
 IsSearched budget form program race text status =
     (a : Answer) × IsAnswer program a × FinishesIfUnknown budget program a × IsAnswerPage form program race a text status
 

@@ -7,7 +7,7 @@ use Rattle.semantics.specs.Headline.{IsNeverStuckWithin, IsStuckRunWithin}
 use Rattle.semantics.specs.declared.state.Step.{Step}
 use Rattle.deciding.specs.Decisions.{HasRace}
 use Rattle.deciding.specs.Schedules.{schedule_text}
-use Rattle.deciding.specs.declared.decision.Race.{Race}
+use Rattle.deciding.specs.declared.decision.CallerRace.{CallerRace}
 use Rattle.command_line.specs.Requests.{AskFor, to_decide_phases, to_join, to_phases}
 use Rattle.session.specs.Asking.{TellsDeadlock, TellsSafety}
 use Rattle.session.specs.Endings.{SessionEnds}
@@ -65,4 +65,4 @@ abbrev pub CutsAreWritten : Type 0
 CutsAreWritten =
     (run : SessionRun) (p folder : Text) (program : List ℕ) → SessionEnds run → AskFor run.words (to_phases p folder)
     → run.before p ≡ Some program → run.status ≡ 0
-    → (IsNeverStuckWithin long program × (run.after ≡ run.before)) ⊎ ((race : Race) × HasRace program race × HasLeftCut run folder program)
+    → (IsNeverStuckWithin long program × (run.after ≡ run.before)) ⊎ ((race : CallerRace) × HasRace program race × HasLeftCut run folder program)

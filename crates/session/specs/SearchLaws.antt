@@ -6,7 +6,7 @@ use Rattle.semantics.specs.Headline.{IsNeverStuckWithin, IsStuckRunWithin}
 use Rattle.semantics.specs.declared.state.Step.{Step}
 use Rattle.deciding.specs.Decisions.{HasRace}
 use Rattle.deciding.specs.Schedules.{schedule_text}
-use Rattle.deciding.specs.declared.decision.Race.{Race}
+use Rattle.deciding.specs.declared.decision.CallerRace.{CallerRace}
 use Rattle.options.specs.declared.form.Form.{Form}
 use Rattle.checker.specs.Headline.{IsNeverStuck, Shows}
 use Rattle.checker.specs.Verdicts.{RefutesProgram}
@@ -99,7 +99,7 @@ abbrev pub ExplainedUnknownFinishes : Type 0
 ExplainedUnknownFinishes =
     (run : SessionRun) (p : Text) (e : Option Text) (budget : ℕ) (form : Form) (program : List ℕ)
     → SessionEnds run → AskToExplain run.words p e budget form → 0 < budget → run.before p ≡ Some program → run.status ≡ 2
-    → (e ≡ None) × ((race : Race) × HasRace program race) × (CanFinish program ⊎ ((reason : Reason) × IsAnswer program (answers.Refused reason)))
+    → (e ≡ None) × ((race : CallerRace) × HasRace program race) × (CanFinish program ⊎ ((reason : Reason) × IsAnswer program (answers.Refused reason)))
 
 -- ---- decide
 
@@ -118,4 +118,4 @@ pub record DecidedRunsAreRight : Type 0 where
   pub never : (run : SessionRun) (p : Text) (out : Option Text) (progress as_json : Bool) (program : List ℕ) → SessionEnds run
       → AskFor run.words (to_decide p out progress as_json) → run.before p ≡ Some program → TellsSafety run → IsNeverStuckWithin long program
   pub race : (run : SessionRun) (p : Text) (out : Option Text) (progress as_json : Bool) (program : List ℕ) → SessionEnds run
-      → AskFor run.words (to_decide p out progress as_json) → run.before p ≡ Some program → run.status ≡ 2 → (race : Race) × HasRace program race
+      → AskFor run.words (to_decide p out progress as_json) → run.before p ≡ Some program → run.status ≡ 2 → (race : CallerRace) × HasRace program race

@@ -10,8 +10,8 @@ use Rattle.deciding.specs.declared.texts.Undecided.{Undecided}
 use Rattle.options.specs.declared.form.Form.{Form}
 use Rattle.options.specs.declared.form.Form.TheVariants as forms
 use Rattle.junit.specs.Report.{Case, IsOf, report_text}
-use Rattle.junit.specs.declared.report.Outcome.{Outcome}
-use Rattle.junit.specs.declared.report.Outcome.TheVariants.{Passed, Failed, Broken}
+use Rattle.junit.specs.declared.report.TestOutcome.{TestOutcome}
+use Rattle.junit.specs.declared.report.TestOutcome.TheVariants.{Passed, Failed, Broken}
 use Rattle.session.specs.Explaining.{IsDecidedFirst}
 use Rattle.session.specs.Pages.{IsDecisionPage, IsUnreadFile, IsWritten}
 use Rattle.session.specs.declared.several.Answers.{Answers}
@@ -42,7 +42,7 @@ file_rows form _ _ = []
 -- ---- a report of tests
 
 -- what an answer counts as in a report of tests
-abbrev pub outcome_of : ℕ → Outcome
+abbrev pub outcome_of : ℕ → TestOutcome
 outcome_of status = if status == 0 then Passed else (if status == 1 then Failed else Broken)
 
 -- the tests of rows, for these paths

@@ -15,7 +15,7 @@ use crate::page::{Page, page_of};
 use crate::told::Outcome;
 use calltext::Limits;
 use command_line::ToExplain;
-use deciding::{Decision, Race, Undecided, decide, schedule_text};
+use deciding::{Decision, CallerRace, Undecided, decide, schedule_text};
 use files::FileSet;
 use options::Form;
 use prooflog::Text;
@@ -137,7 +137,7 @@ fn decision_told<R: Threads + Wait + Sync>(
     match decision {
         Decision::NoDeadlock => sizes_page(alloc, text, form),
         Decision::Deadlock(steps) => run_page(rt, alloc, text, steps, form),
-        Decision::Race(race) => searched_page(rt, alloc, text, *race, options, form),
+        Decision::CallerRace(race) => searched_page(rt, alloc, text, *race, options, form),
     }
 }
 
@@ -176,7 +176,7 @@ fn searched_page<R: Threads + Wait + Sync>(
     rt: &R,
     alloc: Global,
     text: &[u8],
-    race: Race,
+    race: CallerRace,
     options: Options,
     form: Form,
 ) -> Result<Page, AllocError>
@@ -191,7 +191,7 @@ fn answer_explained<R: Threads + Wait + Sync>(
     rt: &R,
     alloc: Global,
     program: &[u8],
-    race: Race,
+    race: CallerRace,
     answer: &Answer,
     form: Form,
 ) -> Result<Page, AllocError>

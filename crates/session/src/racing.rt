@@ -4,7 +4,7 @@ ghost use Rattle.session.specs.Racing.{call_object, caller_words, race_line, rac
 
 use crate::page::object_with;
 use crate::status::UNKNOWN;
-use deciding::{Caller, Race};
+use deciding::{Caller, CallerRace};
 use std::alloc::{AllocError, Global};
 
 /// The number of the line, from 1, that the call at a place stands in, by the numbers of all calls.
@@ -44,7 +44,7 @@ fn race_sentence(
 }
 
 /// The line that tells the calls of a race.
-fn race_line(alloc: Global, lines: &[usize], race: Race) -> Result<String, AllocError>
+fn race_line(alloc: Global, lines: &[usize], race: CallerRace) -> Result<String, AllocError>
     ensures { IfOk result (λ words. string_bytes words ≡ race_line lines.now race) }
 {
     let finder = call_words(alloc, lines, race.finder)?;
@@ -80,7 +80,7 @@ fn race_members(alloc: Global, finder: &str, found: &str, other: &str) -> Result
 }
 
 /// The calls of a race as a JSON object.
-fn race_object(alloc: Global, lines: &[usize], race: Race) -> Result<String, AllocError>
+fn race_object(alloc: Global, lines: &[usize], race: CallerRace) -> Result<String, AllocError>
     ensures { IfOk result (λ object. string_bytes object ≡ race_object lines.now race) }
 {
     let finder = call_object(alloc, lines, race.finder)?;
@@ -90,7 +90,7 @@ fn race_object(alloc: Global, lines: &[usize], race: Race) -> Result<String, All
 }
 
 /// The line that tells a race, and below it the line of its calls.
-fn plain_race(alloc: Global, lines: &[usize], race: Race) -> Result<String, AllocError>
+fn plain_race(alloc: Global, lines: &[usize], race: CallerRace) -> Result<String, AllocError>
     ensures { IfOk result (λ text. string_bytes text ≡ race_text false lines.now race) }
 {
     let calls = race_line(alloc, lines, race)?;
@@ -100,7 +100,7 @@ fn plain_race(alloc: Global, lines: &[usize], race: Race) -> Result<String, Allo
 }
 
 /// A race as one JSON object.
-fn json_race(alloc: Global, lines: &[usize], race: Race) -> Result<String, AllocError>
+fn json_race(alloc: Global, lines: &[usize], race: CallerRace) -> Result<String, AllocError>
     ensures { IfOk result (λ text. string_bytes text ≡ race_text true lines.now race) }
 {
     let object = race_object(alloc, lines, race)?;
@@ -112,7 +112,7 @@ fn json_race(alloc: Global, lines: &[usize], race: Race) -> Result<String, Alloc
 pub fn race_text(
     alloc: Global,
     lines: &[usize],
-    race: Race,
+    race: CallerRace,
     json: bool,
 ) -> Result<String, AllocError>
     ensures { IfOk result (λ text. string_bytes text ≡ race_text json lines.now race) }

@@ -17,7 +17,7 @@ use crate::swept::{behind_first, form_of_answer, graver};
 use command_line::{ToDecideEach, ToExplainEach};
 use deciding::decide;
 use files::FileSet;
-use junit::{Outcome, Report};
+use junit::{TestOutcome, Report};
 use options::Form;
 use prooflog::Text;
 use std::alloc::{AllocError, Global};
@@ -89,15 +89,15 @@ fn put_text_row<'a>(
 }
 
 /// What an answer with this status counts as in a report of tests.
-fn outcome_of(status: u8) -> Outcome
+fn outcome_of(status: u8) -> TestOutcome
     ensures { result ≡ outcome_of status }
 {
     if status == NO_DEADLOCK {
-        Outcome::Passed
+        TestOutcome::Passed
     } else if status == DEADLOCK {
-        Outcome::Failed
+        TestOutcome::Failed
     } else {
-        Outcome::Broken
+        TestOutcome::Broken
     }
 }
 

@@ -9,7 +9,7 @@ use Rattle.prover.specs.Answers.{CanHang, CanFinish}
 use Rattle.shrinking.specs.declared.driving.NotShrunk.{NotShrunk}
 use Rattle.deciding.specs.Decisions.{Decides, HasRace, IsUndecided}
 use Rattle.deciding.specs.declared.decision.Decision.TheVariants as decisions
-use Rattle.deciding.specs.declared.decision.Race.{Race}
+use Rattle.deciding.specs.declared.decision.CallerRace.{CallerRace}
 use Rattle.shrinking.specs.declared.driving.NotShrunk.TheVariants.{NothingHangs, Refused}
 use Rattle.shrinking.specs.declared.halving.NotShrunkLong.{NotShrunkLong}
 use Rattle.shrinking.specs.declared.halving.NotShrunkLong.TheVariants as long_reasons
@@ -47,7 +47,7 @@ pub record IsShrunkLong (text smaller : List ℕ) : Type 0 where
 -- one run of the text's program finishes: so no run of it gets stuck, or messages may race for a
 -- call
 abbrev pub IsNotStuckLong : List ℕ → Type 0
-IsNotStuckLong text = Decides text decisions.NoDeadlock ⊎ ((race : Race) × HasRace text race)
+IsNotStuckLong text = Decides text decisions.NoDeadlock ⊎ ((race : CallerRace) × HasRace text race)
 
 -- Why there is no smaller text within the long limits: the run that buffers least isn't stuck; or
 -- the text isn't decided, for its first fault, or for want of memory.

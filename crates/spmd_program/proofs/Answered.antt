@@ -1,7 +1,7 @@
 -- What is answered of an SPMD text.
 use Rattle.std.proofs.Common.{◌≡◌, ◌∙◌, ℕ, Bool, List, Option, Result, Ok, Err, IfOk, IfErr, refl, sym, ap, subst, inl, inr, option_map}
 use Rattle.std.specs.Global.{Vec}
-use Rattle.spmd_text.specs.declared.reading.Text.{Text}
+use Rattle.spmd_text.specs.declared.reading.SpmdText.{SpmdText}
 use Rattle.spmd_text.specs.declared.fault.TextFault.{TextFault}
 use Rattle.spmd_text.specs.Texts.{HasTextFault, IsSpmdText}
 use Rattle.unroll.specs.declared.value.Value.{Value}
@@ -25,7 +25,7 @@ use Rattle.spmd_program.specs.Unrolling.{IsMapWanted, IsMissetOf, IsRefusal, IsT
 -- ---- an outcome
 
 -- what is printed is that of the run
-pub printed_of : (outcome : Outcome) (path bytes : List ℕ) (ranks : ℕ) (text : Text) (mapped : Bool) (unrolled : Unrolled) (r : Result Unrolling NotUnrolled) → IsUnrolled unrolled outcome
+pub printed_of : (outcome : Outcome) (path bytes : List ℕ) (ranks : ℕ) (text : SpmdText) (mapped : Bool) (unrolled : Unrolled) (r : Result Unrolling NotUnrolled) → IsUnrolled unrolled outcome
     → IfOk r (λ made. IsProgramText text.policy text.names.items ranks unrolled.calls.items made.program.items)
     → IfOk r (λ made. AreOrdered text.policy text.names.items ranks unrolled.calls.items)
     → IfOk r (λ made. IsMapWanted mapped (program_map path text.names.items bytes unrolled.turns.items unrolled.calls.items made.program.items) (option_map (λ m. m.items) made.map))
@@ -42,7 +42,7 @@ printed_of outcome path bytes ranks text mapped unrolled (Ok made) is program or
 printed_of outcome path bytes ranks text mapped unrolled (Err e) is program ordered mapping = program
 
 -- so is a request that is wrong
-pub unordered_of : (outcome : Outcome) (path : List ℕ) (ranks : ℕ) (text : Text) (unrolled : Unrolled) (r : Result Unrolling NotUnrolled) → IsUnrolled unrolled outcome
+pub unordered_of : (outcome : Outcome) (path : List ℕ) (ranks : ℕ) (text : SpmdText) (unrolled : Unrolled) (r : Result Unrolling NotUnrolled) → IsUnrolled unrolled outcome
     → IfErr r (TellsRefusal (AreUnordered path text.policy text.names.items ranks unrolled.turns.items unrolled.calls.items)) → IfErr r (TellsRefusal (IsWrongOf outcome path ranks text))
 unordered_of outcome path ranks text unrolled (Ok made) is wrong = wrong
 unordered_of outcome path ranks text unrolled (Err Memory) is wrong = wrong
@@ -56,7 +56,7 @@ unordered_of outcome path ranks text unrolled (Err (Refused told)) is wrong =
     })
 
 -- the fault that is told is that of the outcome
-pub faulty_of : (outcome : Outcome) (path : List ℕ) (ranks : ℕ) (text : Text) (fault : Fault) (turns : List Turn) (told : List ℕ) → (run : TextRun) × (outcome ≡ Failed fault run) × (turns ≡ run.turns)
+pub faulty_of : (outcome : Outcome) (path : List ℕ) (ranks : ℕ) (text : SpmdText) (fault : Fault) (turns : List Turn) (told : List ℕ) → (run : TextRun) × (outcome ≡ Failed fault run) × (turns ≡ run.turns)
     → told ≡ fault_text path text.names.items ranks turns fault → IsWrongOf outcome path ranks text told
 faulty_of outcome path ranks text fault turns told (run, failed, same) is =
     inl (record {
@@ -75,7 +75,7 @@ unread_of path bytes ranks settings barriers fault Memory has told = told
 unread_of path bytes ranks settings barriers fault (Refused words) has told = inl (fault, has, told)
 
 -- the first setting that is wrong is told
-pub is_misset : (path : List ℕ) (settings : List (List ℕ)) (text : Text) (values : List (Option Value)) (names : List (Vec ℕ)) (bad : Unset) (told : List ℕ) → values ≡ unset names
+pub is_misset : (path : List ℕ) (settings : List (List ℕ)) (text : SpmdText) (values : List (Option Value)) (names : List (Vec ℕ)) (bad : Unset) (told : List ℕ) → values ≡ unset names
     → names ≡ text.names.items → set_all text values settings ≡ Err bad → told ≡ setting_text path bad → IsMissetOf path settings text told
 is_misset path settings text values names bad told none same wrong said = record {
   bad = bad;
@@ -84,13 +84,13 @@ is_misset path settings text values names bad told none same wrong said = record
 }
 
 -- a setting that is wrong
-pub misset_of : (path bytes : List ℕ) (ranks : ℕ) (settings : List (List ℕ)) (barriers : Bool) (text : Text) (e : NotUnrolled) → IsSpmdText text bytes → TellsRefusal (IsMissetOf path settings text) e
+pub misset_of : (path bytes : List ℕ) (ranks : ℕ) (settings : List (List ℕ)) (barriers : Bool) (text : SpmdText) (e : NotUnrolled) → IsSpmdText text bytes → TellsRefusal (IsMissetOf path settings text) e
     → TellsRefusal (IsRefusal path bytes ranks settings barriers) e
 misset_of path bytes ranks settings barriers text Memory is told = told
 misset_of path bytes ranks settings barriers text (Refused words) is told = inr (inl (text, is, told))
 
 -- the outcome is that of the meaning
-pub unrolled_of : (path bytes : List ℕ) (ranks : ℕ) (settings : List (List ℕ)) (barriers mapped : Bool) (text : Text) (values : List (Option Value)) (r : Result Unrolling NotUnrolled) → IsSpmdText text bytes → values_of_settings text settings ≡ Ok values
+pub unrolled_of : (path bytes : List ℕ) (ranks : ℕ) (settings : List (List ℕ)) (barriers mapped : Bool) (text : SpmdText) (values : List (Option Value)) (r : Result Unrolling NotUnrolled) → IsSpmdText text bytes → values_of_settings text settings ≡ Ok values
     → IfOk r (λ made. IsUnrollingOf (text_run text.program values ranks barriers 18446744073709551615 10000000) path bytes ranks text mapped made.program.items (option_map (λ m. m.items) made.map))
     → IfOk r (λ made. IsUnrolling path bytes ranks settings barriers mapped made.program.items (option_map (λ m. m.items) made.map))
 unrolled_of path bytes ranks settings barriers mapped text values (Ok made) is set of = record {
@@ -101,7 +101,7 @@ unrolled_of path bytes ranks settings barriers mapped text values (Ok made) is s
 }
 unrolled_of path bytes ranks settings barriers mapped text values (Err e) is set of = of
 
-pub wrong_of : (path bytes : List ℕ) (ranks : ℕ) (settings : List (List ℕ)) (barriers : Bool) (text : Text) (values : List (Option Value)) (r : Result Unrolling NotUnrolled) → IsSpmdText text bytes → values_of_settings text settings ≡ Ok values
+pub wrong_of : (path bytes : List ℕ) (ranks : ℕ) (settings : List (List ℕ)) (barriers : Bool) (text : SpmdText) (values : List (Option Value)) (r : Result Unrolling NotUnrolled) → IsSpmdText text bytes → values_of_settings text settings ≡ Ok values
     → IfErr r (TellsRefusal (IsWrongOf (text_run text.program values ranks barriers 18446744073709551615 10000000) path ranks text)) → IfErr r (TellsRefusal (IsRefusal path bytes ranks settings barriers))
 wrong_of path bytes ranks settings barriers text values (Ok made) is set of = of
 wrong_of path bytes ranks settings barriers text values (Err Memory) is set of = of

@@ -8,20 +8,20 @@ use Rattle.callorder.specs.Programs.{MpiProgram}
 use Rattle.callorder.specs.FirstFaults.{IsFirstCallFault}
 use Rattle.callorder.specs.Resolving.{IsProgramOfWithin}
 use Rattle.callorder.specs.declared.fault.CallFault.{CallFault}
-use Rattle.spmd_text.specs.declared.reading.Policy.{Policy}
+use Rattle.spmd_text.specs.declared.reading.SpmdPolicy.{SpmdPolicy}
 use Rattle.unroll.specs.declared.call.Placed.{Placed}
 use Rattle.unroll.specs.declared.call.Turn.{Turn}
 use Rattle.spmd_program.specs.Programs.{IsProgramText, program_of}
 use Rattle.spmd_program.specs.Requests.{AreOrdered, IsToldOf, AreUnordered, call_of_line}
 
 -- they are right, where the text that was read is a program
-pub right : (bytes : List ℕ) (policy : Policy) (names : List (Vec ℕ)) (ranks : ℕ) (calls : List Placed) (source : ProgramText) (p : MpiProgram) → IsProgramText policy names ranks calls bytes
+pub right : (bytes : List ℕ) (policy : SpmdPolicy) (names : List (Vec ℕ)) (ranks : ℕ) (calls : List Placed) (source : ProgramText) (p : MpiProgram) → IsProgramText policy names ranks calls bytes
     → IsTextWithin long bytes source → IsProgramOfWithin long source p → AreOrdered policy names ranks calls
 right bytes policy names ranks calls source p is read of =
     (p, subst (λ (t : ProgramText). IsProgramOfWithin long t p) (one_value_within long bytes source (program_of policy names ranks calls) read is) of)
 
 -- they are wrong, where that has a first fault, which is told of the call that it stands for
-pub wrong : (path bytes : List ℕ) (policy : Policy) (names given : List (Vec ℕ)) (ranks : ℕ) (turns held : List Turn) (calls made : List Placed) (source : ProgramText) (rank place behind : ℕ) (why : CallFault)
+pub wrong : (path bytes : List ℕ) (policy : SpmdPolicy) (names given : List (Vec ℕ)) (ranks : ℕ) (turns held : List Turn) (calls made : List Placed) (source : ProgramText) (rank place behind : ℕ) (why : CallFault)
     (placed : Option Placed) (told : List ℕ) → IsProgramText policy names ranks calls bytes → IsTextWithin long bytes source → IsFirstCallFault long source rank place why → given ≡ names → held ≡ turns → made ≡ calls
     → behind ≡ place - 1 → placed ≡ call_of_line made rank behind → IsToldOf path given held placed why told → AreUnordered path policy names ranks turns calls told
 wrong path bytes policy names given ranks turns held calls made source rank place behind why placed told is read first same_names same_turns same_calls before found said =

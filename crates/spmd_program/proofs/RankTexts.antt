@@ -11,7 +11,7 @@ use Rattle.calltext.specs.Grammar.{CallFits}
 use Rattle.calltext.specs.Limits.{long}
 use Rattle.calltext.specs.parts.Printed.{heads, rank_text, ranks_text}
 use Rattle.calltext.proofs.PrintLaws.{ranks_text-push, text_is}
-use Rattle.spmd_text.specs.declared.reading.Policy.{Policy as Buffering}
+use Rattle.spmd_text.specs.declared.reading.SpmdPolicy.{Policy as Buffering}
 use Rattle.unroll.specs.declared.call.Placed.{Placed}
 use Rattle.spmd_program.specs.Lines.{lines_of_calls}
 use Rattle.spmd_program.specs.parts.Programs.{AreRanksWritten, IsRankWritten}

@@ -6,11 +6,11 @@ use Rattle.calltext.specs.declared.call.CallLine.{CallLine}
 use Rattle.calltext.specs.declared.call.CallLine.TheVariants as line
 use Rattle.calltext.specs.declared.call.Mode.{Mode}
 use Rattle.calltext.specs.declared.call.Mode.TheVariants as mode
-use Rattle.spmd_tree.specs.declared.tree.Mode.{Mode as Manner}
-use Rattle.spmd_tree.specs.declared.tree.Mode.TheVariants as manner
+use Rattle.spmd_tree.specs.declared.tree.SendMode.{Mode as Manner}
+use Rattle.spmd_tree.specs.declared.tree.SendMode.TheVariants as manner
 use Rattle.unroll.specs.declared.call.Label.{Label}
-use Rattle.unroll.specs.declared.call.Call.{Call}
-use Rattle.unroll.specs.declared.call.Call.TheVariants as call
+use Rattle.unroll.specs.declared.call.UnrolledCall.{UnrolledCall}
+use Rattle.unroll.specs.declared.call.UnrolledCall.TheVariants as call
 use Rattle.unroll.specs.declared.call.Placed.{Placed}
 
 -- ---- names
@@ -46,7 +46,7 @@ mode_of manner.Buffered = mode.Buffered
 abbrev pub shown_communicator : ℕ → Option ℕ
 shown_communicator c = if nat_eq c 0 then None else Some c
 
-abbrev pub also_of : Call → Option Label
+abbrev pub also_of : UnrolledCall → Option Label
 also_of (call.WaitAlso r) = Some r
 also_of _ = None
 
@@ -60,7 +60,7 @@ further names [] = []
 further names (p ∷ ps) = also_named names (also_of p.call) (further names ps)
 
 -- the line that begins with a call, where these calls stand behind it
-abbrev pub line_of_call : List (Vec ℕ) → Call → List Placed → CallLine
+abbrev pub line_of_call : List (Vec ℕ) → UnrolledCall → List Placed → CallLine
 line_of_call names (call.Send m r d t c) rest = line.Send (mode_of m) (spelled_request names r) d t (shown_communicator c)
 line_of_call names (call.Receive r s t c) rest = line.Receive (spelled_request names r) s t (shown_communicator c)
 line_of_call names (call.MatchedProbe h s t c) rest = line.MatchedProbe (spelled names h) s t (shown_communicator c)
@@ -74,7 +74,7 @@ line_of_call names (call.SendReceive d t s u c) rest = line.SendReceive d t s u 
 -- ---- lines
 
 -- a line begins with the call; a further request of a `waitall` is on the line of the call before
-abbrev pub begins_line : Call → Bool
+abbrev pub begins_line : UnrolledCall → Bool
 begins_line (call.WaitAlso r) = false
 begins_line _ = true
 

@@ -6,8 +6,8 @@ use Rattle.calltext.specs.declared.call.Policy.{Policy}
 use Rattle.calltext.specs.declared.call.Policy.TheVariants as policy
 use Rattle.calltext.specs.Grammar.{ProgramText, IsTextWithin}
 use Rattle.calltext.specs.Limits.{long}
-use Rattle.spmd_text.specs.declared.reading.Policy.{Policy as Buffering}
-use Rattle.spmd_text.specs.declared.reading.Policy.TheVariants as buffering
+use Rattle.spmd_text.specs.declared.reading.SpmdPolicy.{Policy as Buffering}
+use Rattle.spmd_text.specs.declared.reading.SpmdPolicy.TheVariants as buffering
 use Rattle.unroll.specs.declared.call.Placed.{Placed}
 use Rattle.spmd_program.specs.Lines.{lines_of_calls}
 

@@ -7,7 +7,7 @@ use Rattle.callorder.specs.FirstFaults.{IsFirstCallFault}
 use Rattle.callorder.specs.Resolving.{IsProgramOfWithin}
 use Rattle.callorder.specs.declared.fault.CallFault.{CallFault}
 use Rattle.callorder.specs.declared.fault.CallFault.TheVariants as fault
-use Rattle.spmd_text.specs.declared.reading.Policy.{Policy}
+use Rattle.spmd_text.specs.declared.reading.SpmdPolicy.{SpmdPolicy}
 use Rattle.unroll.specs.declared.call.Placed.{Placed}
 use Rattle.unroll.specs.declared.call.Turn.{Turn}
 use Rattle.spmd_program.specs.Lines.{begins_line}
@@ -41,7 +41,7 @@ IsToldOf path names turns (Some p) why told = told ≡ spmd_place_text path name
 
 -- the program of these calls has this first fault, and it is told by the line of the SPMD text that
 -- its call comes from
-pub record AreUnordered (path : List ℕ) (policy : Policy) (names : List (Vec ℕ)) (ranks : ℕ) (turns : List Turn) (calls : List Placed) (told : List ℕ) : Type 0 where
+pub record AreUnordered (path : List ℕ) (policy : SpmdPolicy) (names : List (Vec ℕ)) (ranks : ℕ) (turns : List Turn) (calls : List Placed) (told : List ℕ) : Type 0 where
   pub rank : ℕ
   pub place : ℕ
   pub why : CallFault
@@ -49,5 +49,5 @@ pub record AreUnordered (path : List ℕ) (policy : Policy) (names : List (Vec �
   pub words : IsToldOf path names turns (call_of_line calls rank (place - 1)) why told
 
 -- the requests and handles of these calls are right: the calls are those of a program
-abbrev pub AreOrdered : Policy → List (Vec ℕ) → ℕ → List Placed → Type 0
+abbrev pub AreOrdered : SpmdPolicy → List (Vec ℕ) → ℕ → List Placed → Type 0
 AreOrdered policy names ranks calls = (p : MpiProgram) × IsProgramOfWithin long (program_of policy names ranks calls) p

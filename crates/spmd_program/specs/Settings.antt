@@ -2,7 +2,7 @@
 use Rattle.std.specs.Prelude.{◌≡◌, ℕ, ◌+◌, ◌-◌, ◌*◌, ◌^◌, ℤ, pos, ◌-ℤ◌, Bool, ◌&&◌, ◌==◌, nat_eq, nat_le, nat_lt, List, [], ◌∷◌, length, map, Option, Some, None, option_map, Result, Ok, Err, slice_get, if◌then◌else◌}
 use Rattle.std.specs.List.{after_first, before_first, list_any, position_or_len}
 use Rattle.std.specs.Global.{Vec}
-use Rattle.spmd_text.specs.declared.reading.Text.{Text}
+use Rattle.spmd_text.specs.declared.reading.SpmdText.{SpmdText}
 use Rattle.spmd_text.specs.Tokens.{place_from}
 use Rattle.unroll.specs.declared.value.Value.{Value}
 use Rattle.unroll.specs.declared.value.Value.TheVariants.{Number}
@@ -48,12 +48,12 @@ number_in_value (c ∷ cs) = if c == 45 then option_map (λ n. pos 0 -ℤ pos n)
 abbrev pub unset : List (Vec ℕ) → List (Option Value)
 unset names = map (λ _. None) names
 
-abbrev pub of_parameter : Text → Option ℕ → Option ℕ
+abbrev pub of_parameter : SpmdText → Option ℕ → Option ℕ
 of_parameter t None = None
 of_parameter t (Some place) = if list_any (λ p. nat_eq p place) t.parameters.items then Some place else None
 
 -- the place of a parameter's name
-abbrev pub parameter_of : Text → List ℕ → Option ℕ
+abbrev pub parameter_of : SpmdText → List ℕ → Option ℕ
 parameter_of t name = of_parameter t (place_from name 0 (map (λ n. n.items) t.names.items))
 
 abbrev pub set_place : List (Option Value) → ℤ → Option ℕ → Result (List (Option Value)) SettingFault
@@ -61,12 +61,12 @@ set_place values number None = Err fault.NoParameter
 set_place values number (Some place) =
     if has_value (slice_get values place) then Err fault.Twice else Ok (set_value values place (Some (Number number)))
 
-abbrev pub set_number : Text → List (Option Value) → List ℕ → Option ℤ → Result (List (Option Value)) SettingFault
+abbrev pub set_number : SpmdText → List (Option Value) → List ℕ → Option ℤ → Result (List (Option Value)) SettingFault
 set_number t values name None = Err fault.NoNumber
 set_number t values name (Some number) = set_place values number (parameter_of t name)
 
 -- one setting more
-abbrev pub set_one : Text → List (Option Value) → List ℕ → Result (List (Option Value)) SettingFault
+abbrev pub set_one : SpmdText → List (Option Value) → List ℕ → Result (List (Option Value)) SettingFault
 set_one t values word = if has_equals word then set_number t values (name_in_setting word) (number_in_value (value_in word)) else Err fault.NoEquals
 
 -- a setting, and what is wrong with it
@@ -79,12 +79,12 @@ on_set word (Err why) go = Err (record { word = word; why = why })
 on_set word (Ok values) go = go values
 
 -- all settings, one after another, or the first that is wrong
-abbrev pub set_all : Text → List (Option Value) → List (List ℕ) → Result (List (Option Value)) Unset
+abbrev pub set_all : SpmdText → List (Option Value) → List (List ℕ) → Result (List (Option Value)) Unset
 set_all t values [] = Ok values
 set_all t values (w ∷ ws) = on_set w (set_one t values w) (λ v. set_all t v ws)
 
 -- the values with which a text begins
-abbrev pub values_of_settings : Text → List (List ℕ) → Result (List (Option Value)) Unset
+abbrev pub values_of_settings : SpmdText → List (List ℕ) → Result (List (Option Value)) Unset
 values_of_settings t words = set_all t (unset t.names.items) words
 
 -- ---- the code's view

@@ -3,8 +3,8 @@ use Rattle.std.specs.Prelude.{codes, ℕ, zero, suc, ◌-◌, ℤ, pos, nat_eq, 
 use Rattle.std.specs.Fmt.{signed_decimal}
 use Rattle.std.specs.Global.{Vec}
 use Rattle.plaintext.specs.Plain.{numeral}
-use Rattle.unroll.specs.declared.value.Reason.{Reason}
-use Rattle.unroll.specs.declared.value.Reason.TheVariants as reason
+use Rattle.unroll.specs.declared.value.FaultReason.{FaultReason}
+use Rattle.unroll.specs.declared.value.FaultReason.TheVariants as reason
 use Rattle.unroll.specs.declared.call.Fault.{Fault}
 use Rattle.unroll.specs.declared.call.Turn.{Turn}
 use Rattle.spmd_program.specs.Lines.{name_at}
@@ -46,7 +46,7 @@ unfoldable pub peer_text : ℕ → ℤ → List ℕ
 peer_text size peer = if int_lt peer (pos 0) then counted (codes "peer ") peer (codes " is below 0") else counted (codes "peer ") peer (codes " is not below ") ++ numeral size
 
 -- what is wrong, in a program of so many ranks
-abbrev pub reason_text : List (Vec ℕ) → ℕ → Reason → List ℕ
+abbrev pub reason_text : List (Vec ℕ) → ℕ → FaultReason → List ℕ
 reason_text names size (reason.NoValue name) = name_between [] names name (codes " has no value here")
 reason_text names size (reason.NoSetting name) = name_between (codes "the parameter ") names name (codes " has no value")
 reason_text names size reason.Overflow = codes "a number beyond 64 bits"

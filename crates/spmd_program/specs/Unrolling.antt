@@ -2,7 +2,7 @@
 -- wrong.
 use Rattle.std.specs.Prelude.{codes, ◌≡◌, ◌⊎◌, ℕ, Bool, true, false, List, ◌++◌, Option, Some, None, Ok, Err}
 use Rattle.plaintext.specs.Plain.{numeral}
-use Rattle.spmd_text.specs.declared.reading.Text.{Text}
+use Rattle.spmd_text.specs.declared.reading.SpmdText.{SpmdText}
 use Rattle.spmd_text.specs.declared.fault.ParseFault.{ParseFault}
 use Rattle.spmd_text.specs.declared.fault.ParseReason.TheVariants as why
 use Rattle.spmd_text.specs.declared.fault.TextFault.{TextFault}
@@ -28,7 +28,7 @@ use Rattle.spmd_program.specs.Told.{fault_text}
 -- The bytes are this text; with these settings and for so many ranks, where collective calls are
 -- barriers or not, it has this outcome: the calls of each rank, or the first fault. Calls are as
 -- many as memory holds, turns of loops 10,000,000.
-pub record MeansOutcome (bytes : List ℕ) (ranks : ℕ) (settings : List (List ℕ)) (barriers : Bool) (text : Text) (outcome : Outcome) : Type 0 where
+pub record MeansOutcome (bytes : List ℕ) (ranks : ℕ) (settings : List (List ℕ)) (barriers : Bool) (text : SpmdText) (outcome : Outcome) : Type 0 where
   pub values : List (Option Value)
   pub is_text : IsSpmdText text bytes
   pub set : values_of_settings text settings ≡ Ok values
@@ -41,7 +41,7 @@ IsMapWanted false wanted made = made ≡ None
 
 -- this outcome of a text is done, requests and handles of its calls are right, and these are the
 -- text of its program and its map
-pub record IsUnrollingOf (outcome : Outcome) (path bytes : List ℕ) (ranks : ℕ) (text : Text) (mapped : Bool) (program : List ℕ) (map : Option (List ℕ)) : Type 0 where
+pub record IsUnrollingOf (outcome : Outcome) (path bytes : List ℕ) (ranks : ℕ) (text : SpmdText) (mapped : Bool) (program : List ℕ) (map : Option (List ℕ)) : Type 0 where
   pub run : TextRun
   pub done : outcome ≡ Done run
   pub is_program : IsProgramText text.policy text.names.items ranks run.calls program
@@ -50,7 +50,7 @@ pub record IsUnrollingOf (outcome : Outcome) (path bytes : List ℕ) (ranks : �
 
 -- these are the text of the program of the meaning, and its map
 pub record IsUnrolling (path bytes : List ℕ) (ranks : ℕ) (settings : List (List ℕ)) (barriers mapped : Bool) (program : List ℕ) (map : Option (List ℕ)) : Type 0 where
-  pub text : Text
+  pub text : SpmdText
   pub outcome : Outcome
   pub means : MeansOutcome bytes ranks settings barriers text outcome
   pub made : IsUnrollingOf outcome path bytes ranks text mapped program map
@@ -84,26 +84,26 @@ TellsRefusal IsTold Memory = Unit {0}
 TellsRefusal IsTold (Refused told) = IsTold told.items
 
 -- a setting of the text is wrong
-pub record IsMissetOf (path : List ℕ) (settings : List (List ℕ)) (text : Text) (told : List ℕ) : Type 0 where
+pub record IsMissetOf (path : List ℕ) (settings : List (List ℕ)) (text : SpmdText) (told : List ℕ) : Type 0 where
   pub bad : Unset
   pub set : values_of_settings text settings ≡ Err bad
   pub words : told ≡ setting_text path bad
 
 -- this outcome of a text has a fault
-pub record IsFaultyOf (outcome : Outcome) (path : List ℕ) (ranks : ℕ) (text : Text) (told : List ℕ) : Type 0 where
+pub record IsFaultyOf (outcome : Outcome) (path : List ℕ) (ranks : ℕ) (text : SpmdText) (told : List ℕ) : Type 0 where
   pub fault : Fault
   pub run : TextRun
   pub failed : outcome ≡ Failed fault run
   pub words : told ≡ fault_text path text.names.items ranks run.turns fault
 
 -- this outcome of a text is done, and a request or handle of its calls is wrong
-pub record IsUnorderedOf (outcome : Outcome) (path : List ℕ) (ranks : ℕ) (text : Text) (told : List ℕ) : Type 0 where
+pub record IsUnorderedOf (outcome : Outcome) (path : List ℕ) (ranks : ℕ) (text : SpmdText) (told : List ℕ) : Type 0 where
   pub run : TextRun
   pub done : outcome ≡ Done run
   pub unordered : AreUnordered path text.policy text.names.items ranks run.turns run.calls told
 
 -- what is told of an outcome of a text that no program's text is printed for
-abbrev pub IsWrongOf : Outcome → List ℕ → ℕ → Text → List ℕ → Type 0
+abbrev pub IsWrongOf : Outcome → List ℕ → ℕ → SpmdText → List ℕ → Type 0
 IsWrongOf outcome path ranks text told = IsFaultyOf outcome path ranks text told ⊎ IsUnorderedOf outcome path ranks text told
 
 -- What is told is a fault of the bytes, which are no text; or the first setting that is wrong; or
@@ -111,5 +111,5 @@ IsWrongOf outcome path ranks text told = IsFaultyOf outcome path ranks text told
 abbrev pub IsRefusal : List ℕ → List ℕ → ℕ → List (List ℕ) → Bool → List ℕ → Type 0
 IsRefusal path bytes ranks settings barriers told =
     ((fault : TextFault) × HasTextFault bytes fault × IsToldUnread path fault told)
-    ⊎ (((text : Text) × IsSpmdText text bytes × IsMissetOf path settings text told)
-    ⊎ ((text : Text) × (outcome : Outcome) × MeansOutcome bytes ranks settings barriers text outcome × IsWrongOf outcome path ranks text told))
+    ⊎ (((text : SpmdText) × IsSpmdText text bytes × IsMissetOf path settings text told)
+    ⊎ ((text : SpmdText) × (outcome : Outcome) × MeansOutcome bytes ranks settings barriers text outcome × IsWrongOf outcome path ranks text told))

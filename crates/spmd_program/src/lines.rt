@@ -20,9 +20,9 @@ ghost use Rattle.unroll.specs.declared.call.Placed.{Placed};
 use crate::names::put_label;
 use calltext::{Mode, Verb};
 use plaintext::put_number;
-use spmd_tree::Mode as Manner;
+use spmd_tree::SendMode;
 use std::alloc::{AllocError, Global};
-use unroll::{Call, Label, Placed};
+use unroll::{UnrolledCall, Label, Placed};
 
 /// Adds a number of 31 bits behind a blank.
 fn put_small(out: &mut Vec<u8>, number: u32) -> Result<(), AllocError>
@@ -104,36 +104,36 @@ fn put_request(
     }
 }
 
-fn mode_of(manner: Manner) -> Mode
+fn mode_of(manner: SendMode) -> Mode
     ensures { result ≡ mode_of manner }
 {
     match manner {
-        Manner::Standard => Mode::Standard,
-        Manner::Synchronous => Mode::Synchronous,
-        Manner::Buffered => Mode::Buffered,
+        SendMode::Standard => Mode::Standard,
+        SendMode::Synchronous => Mode::Synchronous,
+        SendMode::Buffered => Mode::Buffered,
     }
 }
 
 /// The first word of the line that begins with a call.
-fn verb_of(call: Call) -> Verb
+fn verb_of(call: UnrolledCall) -> Verb
     ensures { (names : List (Vec ℕ)) (rest : List Placed) → result ≡ verb_of (line_of_call names call rest) }
 {
     match call {
-        Call::Send { mode, request, .. } => Verb::Send {
+        UnrolledCall::Send { mode, request, .. } => Verb::Send {
             mode: mode_of(mode),
             started: request.is_some(),
         },
-        Call::Receive { request, .. } => Verb::Receive {
+        UnrolledCall::Receive { request, .. } => Verb::Receive {
             started: request.is_some(),
         },
-        Call::MatchedProbe { .. } => Verb::MatchedProbe,
-        Call::Probe { .. } => Verb::Probe,
-        Call::MatchedReceive { request, .. } => Verb::MatchedReceive {
+        UnrolledCall::MatchedProbe { .. } => Verb::MatchedProbe,
+        UnrolledCall::Probe { .. } => Verb::Probe,
+        UnrolledCall::MatchedReceive { request, .. } => Verb::MatchedReceive {
             started: request.is_some(),
         },
-        Call::Wait { .. } => Verb::Wait,
-        Call::WaitAll { .. } | Call::WaitAlso { .. } => Verb::WaitAll,
-        Call::SendReceive { .. } => Verb::SendReceive,
+        UnrolledCall::Wait { .. } => Verb::Wait,
+        UnrolledCall::WaitAll { .. } | UnrolledCall::WaitAlso { .. } => Verb::WaitAll,
+        UnrolledCall::SendReceive { .. } => Verb::SendReceive,
     }
 }
 
@@ -151,7 +151,7 @@ fn put_further(
         return Ok(());
     };
     match placed.call {
-        Call::WaitAlso { request } => {
+        UnrolledCall::WaitAlso { request } => {
             put_label(alloc, out, names, request)?;
             put_further(alloc, out, names, others)
         }
@@ -179,64 +179,64 @@ fn put_names(
     alloc: Global,
     out: &mut Vec<u8>,
     names: &[Vec<u8>],
-    call: Call,
+    call: UnrolledCall,
     rest: &[Placed],
 ) -> Result<(), AllocError>
     ensures text { OnOk result (out.new.items ≡ out.old.items ++ spaced (name_words (line_of_call names.now call rest.now))) }
     ensures names { OnOk result (HasNames (line_of_call names.now call rest.now)) }
 {
     match call {
-        Call::Send { request, .. } | Call::Receive { request, .. } => {
+        UnrolledCall::Send { request, .. } | UnrolledCall::Receive { request, .. } => {
             put_request(alloc, out, names, request)
         }
-        Call::MatchedProbe { handle, .. } => put_label(alloc, out, names, handle),
-        Call::MatchedReceive { request, handle } => {
+        UnrolledCall::MatchedProbe { handle, .. } => put_label(alloc, out, names, handle),
+        UnrolledCall::MatchedReceive { request, handle } => {
             put_request(alloc, out, names, request)?;
             put_label(alloc, out, names, handle)
         }
-        Call::Wait { request } => put_label(alloc, out, names, request),
-        Call::WaitAll { request } | Call::WaitAlso { request } => {
+        UnrolledCall::Wait { request } => put_label(alloc, out, names, request),
+        UnrolledCall::WaitAll { request } | UnrolledCall::WaitAlso { request } => {
             put_requests(alloc, out, names, request, rest)
         }
-        Call::Probe { .. } | Call::SendReceive { .. } => Ok(()),
+        UnrolledCall::Probe { .. } | UnrolledCall::SendReceive { .. } => Ok(()),
     }
 }
 
 /// Adds the numbers of the line that begins with a call.
-fn put_numbers(out: &mut Vec<u8>, call: Call) -> Result<(), AllocError>
+fn put_numbers(out: &mut Vec<u8>, call: UnrolledCall) -> Result<(), AllocError>
     ensures text { OnOk result ((names : List (Vec ℕ)) (rest : List Placed) →
         out.new.items ≡ out.old.items ++ spaced (number_words (line_of_call names call rest))) }
     ensures range { OnOk result ((names : List (Vec ℕ)) (rest : List Placed) → IsInRange long (line_of_call names call rest)) }
 {
     match call {
-        Call::Send {
+        UnrolledCall::Send {
             destination,
             tag,
             communicator,
             ..
         } => put_message(out, destination, tag, communicator),
-        Call::Receive {
+        UnrolledCall::Receive {
             source,
             tag,
             communicator,
             ..
         }
-        | Call::MatchedProbe {
+        | UnrolledCall::MatchedProbe {
             source,
             tag,
             communicator,
             ..
         }
-        | Call::Probe {
+        | UnrolledCall::Probe {
             source,
             tag,
             communicator,
         } => put_pattern(out, source, tag, communicator),
-        Call::MatchedReceive { .. }
-        | Call::Wait { .. }
-        | Call::WaitAll { .. }
-        | Call::WaitAlso { .. } => Ok(()),
-        Call::SendReceive {
+        UnrolledCall::MatchedReceive { .. }
+        | UnrolledCall::Wait { .. }
+        | UnrolledCall::WaitAll { .. }
+        | UnrolledCall::WaitAlso { .. } => Ok(()),
+        UnrolledCall::SendReceive {
             destination,
             send_tag,
             source,
@@ -255,7 +255,7 @@ fn put_line(
     alloc: Global,
     out: &mut Vec<u8>,
     names: &[Vec<u8>],
-    call: Call,
+    call: UnrolledCall,
     rest: &[Placed],
 ) -> Result<(), AllocError>
     ensures { OnOk result (AreLinesWritten (line_of_call names.now call rest.now ∷ []) out.old.items out.new.items) }
@@ -279,7 +279,7 @@ fn put_call(
     ensures { OnOk result (AreLinesWritten (lines_at names.now placed rest.now) out.old.items out.new.items) }
 {
     match placed.call {
-        Call::WaitAlso { .. } => Ok(()),
+        UnrolledCall::WaitAlso { .. } => Ok(()),
         call => put_line(alloc, out, names, call, rest),
     }
 }

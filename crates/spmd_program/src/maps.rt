@@ -9,7 +9,7 @@ use crate::said::said_lines;
 use crate::told::{put, put_turns};
 use plaintext::put_number;
 use std::alloc::{AllocError, Global};
-use unroll::{Call, Placed, Turn};
+use unroll::{UnrolledCall, Placed, Turn};
 
 /// The checksum of Fowler, Noll and Vo in its form `1a`, of 64 bits.
 fn sum_of(bytes: &[u8]) -> u64
@@ -135,11 +135,11 @@ fn put_entry(
 }
 
 /// Whether a line begins with the call.
-pub fn begins_line(call: Call) -> bool
+pub fn begins_line(call: UnrolledCall) -> bool
     ensures { result ≡ begins_line call }
 {
     match call {
-        Call::WaitAlso { .. } => false,
+        UnrolledCall::WaitAlso { .. } => false,
         _ => true,
     }
 }

@@ -10,7 +10,7 @@ ghost use Rattle.spmd_program.specs.Programs.{IsProgramText, policy_of_buffering
 
 use crate::lines::put_lines;
 use plaintext::put_number;
-use spmd_text::Policy;
+use spmd_text::SpmdPolicy;
 use std::alloc::{AllocError, Global};
 use unroll::Placed;
 
@@ -29,18 +29,18 @@ fn of_rank(calls: &[Placed], rank: u32) -> (&[Placed], &[Placed])
     calls.split_at(count)
 }
 
-fn policy_word(policy: Policy) -> &'static str
+fn policy_word(policy: SpmdPolicy) -> &'static str
     ensures { result.now ≡ policy_word (policy_of_buffering policy) }
 {
     match policy {
-        Policy::Any => "any",
-        Policy::Never => "none",
-        Policy::Always => "all",
+        SpmdPolicy::Any => "any",
+        SpmdPolicy::Never => "none",
+        SpmdPolicy::Always => "all",
     }
 }
 
 /// Adds the two headings.
-fn put_heads(out: &mut Vec<u8>, ranks: u32, policy: Policy) -> Result<(), AllocError>
+fn put_heads(out: &mut Vec<u8>, ranks: u32, policy: SpmdPolicy) -> Result<(), AllocError>
     ensures { OnOk result (out.new.items ≡ out.old.items ++ heads ranks (policy_of_buffering policy)) }
 {
     out.extend_from_slice(b"ranks ")?;
@@ -97,7 +97,7 @@ fn none_left(calls: &[Placed]) -> Result<(), AllocError>
 /// stands behind those of a higher rank.
 pub fn program_text(
     alloc: Global,
-    policy: Policy,
+    policy: SpmdPolicy,
     names: &[Vec<u8>],
     ranks: u32,
     calls: &[Placed],

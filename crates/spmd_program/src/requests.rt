@@ -10,7 +10,7 @@ use crate::told::{Place, put, put_place};
 use crate::unrolling::NotUnrolled;
 use callorder::{CallFault, LongProgram, ResolveFault};
 use calltext::read_long;
-use spmd_text::Text;
+use spmd_text::SpmdText;
 use std::alloc::{AllocError, Global};
 use unroll::{Placed, Turn, Unrolled};
 
@@ -85,7 +85,7 @@ pub fn ordered(
     alloc: Global,
     path: &str,
     ranks: u32,
-    text: &Text,
+    text: &SpmdText,
     unrolled: &Unrolled,
     program: &[u8],
 ) -> Result<(), NotUnrolled>

@@ -5,7 +5,7 @@ ghost use Rattle.std.specs.List.{list_any};
 ghost use Rattle.unroll.specs.Statements.{has_value};
 ghost use Rattle.spmd_program.specs.Settings.{Sets, SetsOne, digits_from, digits_in, has_equals, name_in_setting, number_in_value, of_parameter, parameter_of, set_all, set_one, set_place, unset, value_in};
 
-use spmd_text::{Text, place_of};
+use spmd_text::{SpmdText, place_of};
 use std::alloc::{AllocError, Global};
 use unroll::Value;
 
@@ -101,7 +101,7 @@ fn is_among(places: &[u32], place: usize) -> bool
 }
 
 /// The place of a name, where it is that of a parameter.
-fn of_parameter(text: &Text, place: Option<usize>) -> Option<usize>
+fn of_parameter(text: &SpmdText, place: Option<usize>) -> Option<usize>
     ensures { result ≡ of_parameter text.now place }
 {
     match place {
@@ -116,7 +116,7 @@ fn of_parameter(text: &Text, place: Option<usize>) -> Option<usize>
 }
 
 /// The place of a parameter's name.
-fn parameter_of(text: &Text, name: &[u8]) -> Option<usize>
+fn parameter_of(text: &SpmdText, name: &[u8]) -> Option<usize>
     ensures { result ≡ parameter_of text.now name.now }
 {
     of_parameter(text, place_of(&text.names, name))
@@ -163,7 +163,7 @@ fn parts_of(word: &str) -> Option<(&str, &str)>
 }
 
 /// Gives a parameter the value that a setting has for it.
-fn set_one(text: &Text, values: &mut Vec<Option<Value>>, word: &str) -> Result<(), SettingFault>
+fn set_one(text: &SpmdText, values: &mut Vec<Option<Value>>, word: &str) -> Result<(), SettingFault>
     ensures { SetsOne result (set_one text.now values.old.items word.now) values.new.items }
 {
     let Some((name, value)) = parts_of(word) else {
@@ -177,7 +177,7 @@ fn set_one(text: &Text, values: &mut Vec<Option<Value>>, word: &str) -> Result<(
 
 /// Gives the parameters their values, in the order of the settings.
 pub fn set_all<'a>(
-    text: &Text,
+    text: &SpmdText,
     values: &mut Vec<Option<Value>>,
     words: &[&'a str],
 ) -> Result<(), BadSetting<'a>>

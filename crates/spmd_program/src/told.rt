@@ -7,7 +7,7 @@ ghost use Rattle.spmd_program.specs.Told.{counted, fault_text, name_between, pee
 use crate::names::put_name;
 use plaintext::put_number;
 use std::alloc::{AllocError, Global};
-use unroll::{Fault, Reason, Turn};
+use unroll::{Fault, FaultReason, Turn};
 
 /// Adds a text.
 pub fn put(out: &mut Vec<u8>, text: &str) -> Result<(), AllocError>
@@ -119,28 +119,28 @@ fn put_reason(
     out: &mut Vec<u8>,
     names: &[Vec<u8>],
     ranks: u32,
-    reason: Reason,
+    reason: FaultReason,
 ) -> Result<(), AllocError>
     ensures { OnOk result (out.new.items ≡ out.old.items ++ reason_text names.now ranks reason) }
 {
     match reason {
-        Reason::NoValue { name } => put_named(out, "", names, name, " has no value here"),
-        Reason::NoSetting { name } => {
+        FaultReason::NoValue { name } => put_named(out, "", names, name, " has no value here"),
+        FaultReason::NoSetting { name } => {
             put_named(out, "the parameter ", names, name, " has no value")
         }
-        Reason::Overflow => put(out, "a number beyond 64 bits"),
-        Reason::Divisor { divisor } => {
+        FaultReason::Overflow => put(out, "a number beyond 64 bits"),
+        FaultReason::Divisor { divisor } => {
             put_counted(alloc, out, "divisor ", divisor, " is not above 0")
         }
-        Reason::Shift { by } => put_counted(alloc, out, "a shift by ", by, " is not 0 to 62"),
-        Reason::BelowZero { number } => {
+        FaultReason::Shift { by } => put_counted(alloc, out, "a shift by ", by, " is not 0 to 62"),
+        FaultReason::BelowZero { number } => {
             put_counted(alloc, out, "xor of ", number, ", which is below 0")
         }
-        Reason::NullNumber => put(out, "null where a number has to stand"),
-        Reason::Kind => put(out, "a condition where a number has to stand"),
-        Reason::PeerRange { peer } => put_peer(alloc, out, ranks, peer),
-        Reason::TagRange { tag } => put_counted(alloc, out, "tag ", tag, " is not 0 to 32767"),
-        Reason::CommunicatorRange { communicator } => {
+        FaultReason::NullNumber => put(out, "null where a number has to stand"),
+        FaultReason::Kind => put(out, "a condition where a number has to stand"),
+        FaultReason::PeerRange { peer } => put_peer(alloc, out, ranks, peer),
+        FaultReason::TagRange { tag } => put_counted(alloc, out, "tag ", tag, " is not 0 to 32767"),
+        FaultReason::CommunicatorRange { communicator } => {
             put_counted(
                 alloc,
                 out,
@@ -149,23 +149,23 @@ fn put_reason(
                 " is not 0 to 127",
             )
         }
-        Reason::IndexRange { index } => {
+        FaultReason::IndexRange { index } => {
             put_counted(alloc, out, "index ", index, " is not 0 to 99999")
         }
-        Reason::ErrorReached => put(out, "error was reached"),
-        Reason::StillOpen { name } => {
+        FaultReason::ErrorReached => put(out, "error was reached"),
+        FaultReason::StillOpen { name } => {
             put_named(out, "", names, name, " is started again before its end")
         }
-        Reason::NeverEnded { name } => put_named(out, "", names, name, " is never waited for"),
-        Reason::TooManyCalls => put(out, "more than 18446744073709551615 calls"),
-        Reason::TooManyTurns => put(out, "more than 10000000 turns of loops"),
-        Reason::GroupStep { step } => {
+        FaultReason::NeverEnded { name } => put_named(out, "", names, name, " is never waited for"),
+        FaultReason::TooManyCalls => put(out, "more than 18446744073709551615 calls"),
+        FaultReason::TooManyTurns => put(out, "more than 10000000 turns of loops"),
+        FaultReason::GroupStep { step } => {
             put_counted(alloc, out, "step ", step, " of a group is not 1 to 65535")
         }
-        Reason::NotInGroup { rank } => {
+        FaultReason::NotInGroup { rank } => {
             put_counted(alloc, out, "rank ", i64::from(rank), " is not of the group")
         }
-        Reason::TooManyCollectives => put(
+        FaultReason::TooManyCollectives => put(
             out,
             "more than 67108864 collective calls with one communicator and group",
         ),

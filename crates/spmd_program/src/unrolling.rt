@@ -17,9 +17,9 @@ use crate::requests::ordered;
 use crate::settings::{SettingFault, set_all, unset};
 use crate::told::{put, put_fault};
 use plaintext::put_number;
-use spmd_text::{ParseFault, ParseReason, Text, TextFault, parse};
+use spmd_text::{ParseFault, ParseReason, SpmdText, TextFault, parse};
 use std::alloc::{AllocError, Global};
-use unroll::{Fault, Limits, Refusal, Turn, Unrolled, Value, unroll};
+use unroll::{Fault, UnrollLimits, Refusal, Turn, Unrolled, Value, unroll};
 
 /// How many turns of loops all ranks together may make: this bounds the time of a text whose loops
 /// make no calls.
@@ -167,7 +167,7 @@ fn printed(
     path: &str,
     source: &[u8],
     ranks: u32,
-    text: &Text,
+    text: &SpmdText,
     unrolled: &Unrolled,
     mapped: bool,
 ) -> Result<Unrolling, NotUnrolled>
@@ -190,7 +190,7 @@ fn printed(
 fn values_of(
     alloc: Global,
     path: &str,
-    text: &Text,
+    text: &SpmdText,
     settings: &[&str],
 ) -> Result<Vec<Option<Value>>, NotUnrolled>
     ensures values { IfOk result (λ values. values_of_settings text.now (map (λ s. s.now) settings.entry.now) ≡ Ok values.items) }
@@ -240,7 +240,7 @@ fn unrolled_with(
     path: &str,
     source: &[u8],
     ranks: u32,
-    text: &Text,
+    text: &SpmdText,
     values: &[Option<Value>],
     barriers: bool,
     mapped: bool,
@@ -251,7 +251,7 @@ fn unrolled_with(
     ensures refused { IfErr result (TellsRefusal (IsWrongOf (text_run text.now.program values.now ranks barriers
         18446744073709551615 10000000) path.now ranks text.now)) }
 {
-    let limits = Limits {
+    let limits = UnrollLimits {
         calls: u64::MAX,
         turns: TURNS,
     };

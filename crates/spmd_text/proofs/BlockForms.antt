@@ -3,8 +3,8 @@ use Rattle.std.proofs.Common.{◌≡◌, ℕ, ◌≤◌, ◌<◌, length, drop, 
 use Rattle.std.proofs.lemmas.List.{length-append}
 use Rattle.std.proofs.lemmas.Option.{same_Some}
 use Rattle.spmd_tree.specs.declared.tree.Expression.{Expression}
-use Rattle.spmd_tree.specs.declared.tree.Statement.{Statement}
-use Rattle.spmd_tree.specs.declared.tree.Statement.TheVariants as statement
+use Rattle.spmd_tree.specs.declared.tree.SpmdStatement.{SpmdStatement}
+use Rattle.spmd_tree.specs.declared.tree.SpmdStatement.TheVariants as statement
 use Rattle.spmd_text.specs.declared.fault.ParseReason.{ParseReason}
 use Rattle.spmd_text.specs.declared.fault.ParseReason.TheVariants.{Memory}
 use Rattle.spmd_text.specs.declared.lines.Span.{Span}
@@ -32,7 +32,7 @@ use Rattle.spmd_text.proofs.BlockWords.{begins_so, condition_strict, end_ends, e
 
 -- ---- from the first word on
 
-pub reads_begun : {old mid new : Parser} {s : Statement} {scope : Scope} {depth line : ℕ} {w : Word} → Keeps old mid → (old.fault ≡ None → mid.fault ≡ None)
+pub reads_begun : {old mid new : Parser} {s : SpmdStatement} {scope : Scope} {depth line : ℕ} {w : Word} → Keeps old mid → (old.fault ≡ None → mid.fault ≡ None)
     → (old.fault ≡ None → put_back line w (Some mid.rest.now) ≡ Some old.rest.now) → HasRead (begun_part scope depth line w) mid new s → HasRead (one_part scope depth w) old new s
 reads_begun {old} {mid} {new} {s} {scope} {depth} {line} {w} goes sound_so back r = record {
   goes = keeps_on goes r.goes;
@@ -47,7 +47,7 @@ put_back_is w (t ∷ ts) e = ap (λ (p : Piece). Some (record { line = t.line; p
 
 -- ---- what stands behind the statements of a branch
 
-is_nothing_or : (s : Statement) → is_tail s ≡ true → is_one s ≡ false → s ≡ statement.Nothing
+is_nothing_or : (s : SpmdStatement) → is_tail s ≡ true → is_one s ≡ false → s ≡ statement.Nothing
 unfolding is_tail
 is_nothing_or statement.Nothing tail one = refl
 is_nothing_or (statement.Sequence' p a q b) tail one = absurd (let never : false ≡ true = tail in cc)
@@ -57,7 +57,7 @@ is_nothing_or s tail one = absurd (let never : true ≡ false = one in cc)
 begins_end : Word → Type 0
 begins_end w = (rest : List Token) → ends_behind w rest ≡ piece_begins (piece.Word word.End) (Some rest)
 
-tail_as : (old : Parser) (scope : Scope) (depth : ℕ) (w : Word) (s : Statement) → (w ≡ word.End → ⊥) → begins_end w
+tail_as : (old : Parser) (scope : Scope) (depth : ℕ) (w : Word) (s : SpmdStatement) → (w ≡ word.End → ⊥) → begins_end w
     → (old.fault ≡ None → piece_begins (piece.Word w) (Some old.rest.now) ≡ true) → (Begins scope depth w s → is_tail s ≡ true)
     → IsAs (one_part scope depth w) (tail_part scope depth) old s s
 unfolding begins_end
@@ -67,36 +67,36 @@ tail_as old scope depth w s other ends_so there tail_so = record {
   may = λ m. record { tail = tail_so m; obeys = m.obeys };
 }
   where
-    by_one : (one : Bool) (x : Statement) (rest : List Token) → is_one x ≡ one → old.fault ≡ None → MayTail scope depth x → after_statement x (Some old.rest.now) ≡ Some rest
+    by_one : (one : Bool) (x : SpmdStatement) (rest : List Token) → is_one x ≡ one → old.fault ≡ None → MayTail scope depth x → after_statement x (Some old.rest.now) ≡ Some rest
         → piece_begins (piece.Word word.End) (Some rest) ≡ true → Begins scope depth w x
     by_one true x rest one sound may e ends =
         record { one = one; piece_begins = same_begin (first_word x) w old.rest.now (one_begins x one old.rest.now rest e) (there sound); obeys = may.obeys }
     by_one false x rest one sound may e ends =
-        let f = subst (λ (z : Statement). after_statement z (Some old.rest.now) ≡ Some rest) (is_nothing_or x may.tail one) e in
+        let f = subst (λ (z : SpmdStatement). after_statement z (Some old.rest.now) ≡ Some rest) (is_nothing_or x may.tail one) e in
         let same = same_Some old.rest.now rest f in
         absurd (other (same_begin w word.End rest (ap (λ (xs : List Token). piece_begins (piece.Word w) (Some xs)) (sym same) ∙ there sound) ends))
 
-    back : (x : Statement) (rest : List Token) → old.fault ≡ None → MayTail scope depth x → after_statement x (Some old.rest.now) ≡ Some rest
+    back : (x : SpmdStatement) (rest : List Token) → old.fault ≡ None → MayTail scope depth x → after_statement x (Some old.rest.now) ≡ Some rest
         → piece_begins (piece.Word word.End) (Some rest) ≡ true
-        → (y : Statement) × Begins scope depth w y × (after_statement y (Some old.rest.now) ≡ Some rest) × (ends_behind w rest ≡ true) × (Unit {0} → Unit {0})
+        → (y : SpmdStatement) × Begins scope depth w y × (after_statement y (Some old.rest.now) ≡ Some rest) × (ends_behind w rest ≡ true) × (Unit {0} → Unit {0})
     back x rest sound may e ends = (x, by_one (is_one x) x rest refl sound may e ends, e, ends_so rest ∙ ends, λ same. tt)
 
-elif_is_tail : (scope : Scope) (depth : ℕ) (s : Statement) → Begins scope depth word.Elif s → is_tail s ≡ true
+elif_is_tail : (scope : Scope) (depth : ℕ) (s : SpmdStatement) → Begins scope depth word.Elif s → is_tail s ≡ true
 unfolding is_tail
 elif_is_tail scope depth s may =
     let i = is_when true s may.one may.begins in ap is_tail i.is
 
-else_is_tail : (scope : Scope) (depth : ℕ) (s : Statement) → Begins scope depth word.Else s → is_tail s ≡ true
+else_is_tail : (scope : Scope) (depth : ℕ) (s : SpmdStatement) → Begins scope depth word.Else s → is_tail s ≡ true
 unfolding is_tail
 else_is_tail scope depth s may =
     let i = is_else s may.one may.begins in ap is_tail i.is
 
-pub elif_as : (old : Parser) (depth : ℕ) (s : Statement) → (old.fault ≡ None → piece_begins (piece.Word word.Elif) (Some old.rest.now) ≡ true)
+pub elif_as : (old : Parser) (depth : ℕ) (s : SpmdStatement) → (old.fault ≡ None → piece_begins (piece.Word word.Elif) (Some old.rest.now) ≡ true)
     → IsAs (one_part (scope_of old) depth word.Elif) (tail_part (scope_of old) depth) old s s
 unfolding begins_end
 elif_as old depth s there = tail_as old (scope_of old) depth word.Elif s (λ e. let never : word.Elif ≡ word.End = e in cc) (λ rest. refl) there (elif_is_tail (scope_of old) depth s)
 
-pub else_as : (old : Parser) (depth : ℕ) (s : Statement) → (old.fault ≡ None → piece_begins (piece.Word word.Else) (Some old.rest.now) ≡ true)
+pub else_as : (old : Parser) (depth : ℕ) (s : SpmdStatement) → (old.fault ≡ None → piece_begins (piece.Word word.Else) (Some old.rest.now) ≡ true)
     → IsAs (one_part (scope_of old) depth word.Else) (tail_part (scope_of old) depth) old s s
 unfolding begins_end
 else_as old depth s there = tail_as old (scope_of old) depth word.Else s (λ e. let never : word.Else ≡ word.End = e in cc) (λ rest. refl) there (else_is_tail (scope_of old) depth s)
@@ -107,38 +107,38 @@ not_so false e = refl
 
 -- ---- an `else`
 
-pub otherwise_back : (old : Parser) (depth line : ℕ) (made : Statement) (w : Statement) (rest : List Token) → old.fault ≡ None → Begins (scope_of old) depth word.Else w
+pub otherwise_back : (old : Parser) (depth line : ℕ) (made : SpmdStatement) (w : SpmdStatement) (rest : List Token) → old.fault ≡ None → Begins (scope_of old) depth word.Else w
     → after_statement w (put_back line word.Else (Some old.rest.now)) ≡ Some rest → ends_behind word.Else rest ≡ true
-    → (x : Unit {0} × Statement) × (Unit {0} × MayStatements (scope_of old) depth x.1) × (after_statement x.1 (after_piece piece.LineEnd (Some old.rest.now)) ≡ Some rest)
+    → (x : Unit {0} × SpmdStatement) × (Unit {0} × MayStatements (scope_of old) depth x.1) × (after_statement x.1 (after_piece piece.LineEnd (Some old.rest.now)) ≡ Some rest)
     × (ends_statements rest ≡ true) × Unit {0}
 otherwise_back old depth line made w rest sound may e ends =
     let i = is_else w may.one may.begins in
     let o = subst (Obeys (scope_of old) depth) i.is may.obeys in
-    let f = subst (λ (z : Statement). after_statement z (put_back line word.Else (Some old.rest.now)) ≡ Some rest) i.is e in
+    let f = subst (λ (z : SpmdStatement). after_statement z (put_back line word.Else (Some old.rest.now)) ≡ Some rest) i.is e in
     let g = only_left (not (is_branch i.inner)) (after_statement i.inner (after_piece piece.LineEnd (Some old.rest.now))) rest f in
     ((tt, i.inner), (tt, record { plain = not_so (is_branch i.inner) g.0; obeys = o }), g.1, end_ends rest ends, tt)
 
-pub otherwise_so : (old : Parser) (depth line : ℕ) (inner made : Statement) → IsOtherwise inner made → (rest : List Token)
+pub otherwise_so : (old : Parser) (depth line : ℕ) (inner made : SpmdStatement) → IsOtherwise inner made → (rest : List Token)
     → after_statement inner (after_piece piece.LineEnd (Some old.rest.now)) ≡ Some rest → Unit {0} × MayStatements (scope_of old) depth inner
     → (after_statement made (put_back line word.Else (Some old.rest.now)) ≡ Some rest) × Begins (scope_of old) depth word.Else made
 otherwise_so old depth line inner made m rest e may = (
-  ap (λ (z : Statement). after_statement z (put_back line word.Else (Some old.rest.now))) m.is
-      ∙ (ap (λ (v : Statement). only (not (is_branch v)) (after_statement v (after_piece piece.LineEnd (Some old.rest.now)))) m.holds
+  ap (λ (z : SpmdStatement). after_statement z (put_back line word.Else (Some old.rest.now))) m.is
+      ∙ (ap (λ (v : SpmdStatement). only (not (is_branch v)) (after_statement v (after_piece piece.LineEnd (Some old.rest.now)))) m.holds
       ∙ (ap (λ (b : Bool). only (not b) (after_statement inner (after_piece piece.LineEnd (Some old.rest.now)))) may.1.plain ∙ e)),
   subst (Begins (scope_of old) depth word.Else) (sym m.is) (record { one = refl; piece_begins = refl; obeys = subst (Obeys (scope_of old) depth) (sym m.holds) may.1.obeys }),
 )
 
 -- ---- a branch
 
-abbrev pub branch_parts : Scope → ℕ → Bool → SyntaxPart ((((Expression × Unit {0}) × Statement) × Statement) × Unit {0})
+abbrev pub branch_parts : Scope → ℕ → Bool → SyntaxPart ((((Expression × Unit {0}) × SpmdStatement) × SpmdStatement) × Unit {0})
 branch_parts scope depth chained =
     then_part (then_part (then_part (then_part (condition_part scope.in_parameter) (piece_part piece.LineEnd)) (statements_part scope depth)) (tail_part scope depth)) (end_part chained)
 
 -- a branch from its condition on
-abbrev pub behind_condition : Bool → Expression → Statement → Statement → Rest → Rest
+abbrev pub behind_condition : Bool → Expression → SpmdStatement → SpmdStatement → Rest → Rest
 behind_condition chained c a b rest = after_end chained (after_statement b (after_statement a (after_piece piece.LineEnd (after_condition c rest))))
 
-condition_none : (chained : Bool) (c : Expression) (a b : Statement) → behind_condition chained c a b None ≡ None
+condition_none : (chained : Bool) (c : Expression) (a b : SpmdStatement) → behind_condition chained c a b None ≡ None
 condition_none chained c a b =
     none_of (after_end chained) (end_strict chained) _ (none_of (after_statement b) (statement_strict b) _ (none_of (after_statement a) (statement_strict a) _ (after_of piece.LineEnd _ (condition_strict c))))
 
@@ -146,14 +146,14 @@ branch_end : (chained : Bool) (rest : List Token) → ends_behind (branch_word c
 branch_end true rest e = e
 branch_end false rest e = refl
 
-pub when_back : (old : Parser) (depth line : ℕ) (chained : Bool) (w : Statement) (rest : List Token) → old.fault ≡ None → Begins (scope_of old) depth (branch_word chained) w
+pub when_back : (old : Parser) (depth line : ℕ) (chained : Bool) (w : SpmdStatement) (rest : List Token) → old.fault ≡ None → Begins (scope_of old) depth (branch_word chained) w
     → after_statement w (put_back line (branch_word chained) (Some old.rest.now)) ≡ Some rest → ends_behind (branch_word chained) rest ≡ true
-    → (x : (((Expression × Unit {0}) × Statement) × Statement) × Unit {0}) × SyntaxPart.May (branch_parts (scope_of old) (depth - 1) chained) x
+    → (x : (((Expression × Unit {0}) × SpmdStatement) × SpmdStatement) × Unit {0}) × SyntaxPart.May (branch_parts (scope_of old) (depth - 1) chained) x
     × (behind_condition chained x.0.0.0.0 x.0.0.1 x.0.1 (Some old.rest.now) ≡ Some rest) × ((not chained || piece_begins (piece.Word word.End) (Some rest)) ≡ true) × Unit {0}
 when_back old depth line chained w rest sound may e ends =
     let i = is_when chained w may.one may.begins in
     let o = subst (Obeys (scope_of old) depth) i.is may.obeys in
-    let f = subst (λ (z : Statement). after_statement z (put_back line (branch_word chained) (Some old.rest.now)) ≡ Some rest) i.is e in
+    let f = subst (λ (z : SpmdStatement). after_statement z (put_back line (branch_word chained) (Some old.rest.now)) ≡ Some rest) i.is e in
     let g = only_left (not (is_branch i.yes) && is_tail i.other) (behind_condition chained i.condition i.yes i.other (after_start i.line (branch_word chained) (put_back line (branch_word chained) (Some old.rest.now)))) rest f in (
       ((((i.condition, tt), i.yes), i.other), tt),
       ((((o.1, tt), record { plain = not_so (is_branch i.yes) (and_left (not (is_branch i.yes)) (is_tail i.other) g.0); obeys = o.2 }), record { tail = and_right (not (is_branch i.yes)) (is_tail i.other) g.0; obeys = o.3 }), tt),
@@ -162,19 +162,19 @@ when_back old depth line chained w rest sound may e ends =
       tt,
     )
 
-pub when_none : (old : Parser) (depth line : ℕ) (chained : Bool) (w : Statement) → depth ≡ 0 → Begins (scope_of old) depth (branch_word chained) w → ⊥
+pub when_none : (old : Parser) (depth line : ℕ) (chained : Bool) (w : SpmdStatement) → depth ≡ 0 → Begins (scope_of old) depth (branch_word chained) w → ⊥
 when_none old depth line chained w none may =
     let i = is_when chained w may.one may.begins in
     let o = subst (Obeys (scope_of old) depth) i.is may.obeys in
     let low : 1 ≤ depth = o.0 in omega (arith, low, none)
 
-pub when_so : (old : Parser) (depth line : ℕ) (chained : Bool) (c : Expression) (a b made : Statement) → 1 ≤ depth → IsWhen line chained c a b made → (rest : List Token)
+pub when_so : (old : Parser) (depth line : ℕ) (chained : Bool) (c : Expression) (a b made : SpmdStatement) → 1 ≤ depth → IsWhen line chained c a b made → (rest : List Token)
     → behind_condition chained c a b (Some old.rest.now) ≡ Some rest → SyntaxPart.May (branch_parts (scope_of old) (depth - 1) chained) ((((c, tt), a), b), tt)
     → (after_statement made (put_back line (branch_word chained) (Some old.rest.now)) ≡ Some rest) × Begins (scope_of old) depth (branch_word chained) made
 when_so old depth line chained c a b made deep m rest e may = (
-  ap (λ (z : Statement). after_statement z start) m.is
-      ∙ (ap (λ (v : Statement). only (not (is_branch v) && is_tail m.second.value) (behind_condition chained c v m.second.value begun)) m.first_holds
-      ∙ (ap (λ (v : Statement). only (not (is_branch a) && is_tail v) (behind_condition chained c a v begun)) m.second_holds
+  ap (λ (z : SpmdStatement). after_statement z start) m.is
+      ∙ (ap (λ (v : SpmdStatement). only (not (is_branch v) && is_tail m.second.value) (behind_condition chained c v m.second.value begun)) m.first_holds
+      ∙ (ap (λ (v : SpmdStatement). only (not (is_branch a) && is_tail v) (behind_condition chained c a v begun)) m.second_holds
       ∙ (ap (λ (k : Bool). only k (behind_condition chained c a b begun)) (both_true (not (is_branch a)) (is_tail b) (ap not may.0.0.1.plain) may.0.1.tail)
       ∙ (ap (behind_condition chained c a b) (start_same line (branch_word chained) old.rest.now) ∙ e)))),
   subst (Begins (scope_of old) depth (branch_word chained)) (sym m.is)
@@ -265,34 +265,34 @@ loop_head_parts scope = then_part (then_part (variable_part scope) (span_part sc
 abbrev pub name_read : (ℕ × Span) × Unit {0} → ℕ
 name_read x = x.0.0
 
-abbrev pub loop_body_parts : Scope → ℕ → SyntaxPart (((ℕ × Span) × Unit {0}) × Statement)
+abbrev pub loop_body_parts : Scope → ℕ → SyntaxPart (((ℕ × Span) × Unit {0}) × SpmdStatement)
 loop_body_parts scope depth = then_on (loop_head_parts scope) (statements_part scope depth) (λ k. MayStatements (within_loop k scope) depth) name_read
 
-abbrev pub loop_parts : Scope → ℕ → SyntaxPart ((((ℕ × Span) × Unit {0}) × Statement) × Unit {0})
+abbrev pub loop_parts : Scope → ℕ → SyntaxPart ((((ℕ × Span) × Unit {0}) × SpmdStatement) × Unit {0})
 loop_parts scope depth = then_part (loop_body_parts scope depth) (end_part false)
 
 abbrev pub behind_span : Span → Rest → Rest
 behind_span span rest = after_gap (pos span.step) (after_value span.last (after_piece (piece.Word word.To) (after_value span.first rest)))
 
 -- a loop from its variable on
-abbrev pub behind_word : ℕ → Span → Statement → Rest → Rest
+abbrev pub behind_word : ℕ → Span → SpmdStatement → Rest → Rest
 behind_word k span a rest = after_end false (after_statement a (after_piece piece.LineEnd (behind_span span (after_piece piece.Equals (after_piece (piece.Name k) rest)))))
 
 pub span_strict : (span : Span) → behind_span span None ≡ None
 span_strict span = none_of (λ z. after_gap (pos span.step) z) (gap_strict span.step) _ (value_of span.last _ (after_of (piece.Word word.To) _ (value_strict span.first)))
 
-word_none : (k : ℕ) (span : Span) (a : Statement) → behind_word k span a None ≡ None
+word_none : (k : ℕ) (span : Span) (a : SpmdStatement) → behind_word k span a None ≡ None
 word_none k span a = none_of (after_end false) (end_strict false) _ (none_of (after_statement a) (statement_strict a) _ (after_of piece.LineEnd _ (span_strict span)))
 
-pub repeat_back : (old : Parser) (depth line : ℕ) (w : Statement) (rest : List Token) → old.fault ≡ None → Begins (scope_of old) depth word.For w
+pub repeat_back : (old : Parser) (depth line : ℕ) (w : SpmdStatement) (rest : List Token) → old.fault ≡ None → Begins (scope_of old) depth word.For w
     → after_statement w (put_back line word.For (Some old.rest.now)) ≡ Some rest → ends_behind word.For rest ≡ true
-    → (x : (((ℕ × Span) × Unit {0}) × Statement) × Unit {0}) × SyntaxPart.May (loop_parts (scope_of old) (depth - 1)) x
+    → (x : (((ℕ × Span) × Unit {0}) × SpmdStatement) × Unit {0}) × SyntaxPart.May (loop_parts (scope_of old) (depth - 1)) x
     × (behind_word x.0.0.0.0 x.0.0.0.1 x.0.1 (Some old.rest.now) ≡ Some rest) × (true ≡ true) × Unit {0}
 repeat_back old depth line w rest sound may e ends =
     let i = is_loop w may.one may.begins in
     let o = subst (Obeys (scope_of old) depth) i.is may.obeys in
     let span : Span = record { first = i.first; last = i.last; step = i.step } in
-    let f = subst (λ (z : Statement). after_statement z (put_back line word.For (Some old.rest.now)) ≡ Some rest) i.is e in
+    let f = subst (λ (z : SpmdStatement). after_statement z (put_back line word.For (Some old.rest.now)) ≡ Some rest) i.is e in
     let g = only_left (not (is_branch i.body)) (behind_word i.name span i.body (after_start i.line word.For (put_back line word.For (Some old.rest.now)))) rest f in (
       ((((i.name, span), tt), i.body), tt),
       ((((o.1, record { first = o.2; last = o.3; step = o.4 }), tt), record { plain = not_so (is_branch i.body) g.0; obeys = o.5 }), tt),
@@ -301,18 +301,18 @@ repeat_back old depth line w rest sound may e ends =
       tt,
     )
 
-pub repeat_none : (old : Parser) (depth : ℕ) (w : Statement) → depth ≡ 0 → Begins (scope_of old) depth word.For w → ⊥
+pub repeat_none : (old : Parser) (depth : ℕ) (w : SpmdStatement) → depth ≡ 0 → Begins (scope_of old) depth word.For w → ⊥
 repeat_none old depth w none may =
     let i = is_loop w may.one may.begins in
     let o = subst (Obeys (scope_of old) depth) i.is may.obeys in
     let low : 1 ≤ depth = o.0 in omega (arith, low, none)
 
-pub repeat_so : (old : Parser) (depth line k : ℕ) (span : Span) (a made : Statement) → 1 ≤ depth → IsRepeat line k span a made → (rest : List Token)
+pub repeat_so : (old : Parser) (depth line k : ℕ) (span : Span) (a made : SpmdStatement) → 1 ≤ depth → IsRepeat line k span a made → (rest : List Token)
     → behind_word k span a (Some old.rest.now) ≡ Some rest → SyntaxPart.May (loop_parts (scope_of old) (depth - 1)) ((((k, span), tt), a), tt)
     → (after_statement made (put_back line word.For (Some old.rest.now)) ≡ Some rest) × Begins (scope_of old) depth word.For made
 repeat_so old depth line k span a made deep m rest e may = (
-  ap (λ (z : Statement). after_statement z start) m.is
-      ∙ (ap (λ (v : Statement). only (not (is_branch v)) (behind_word k span v begun)) m.holds
+  ap (λ (z : SpmdStatement). after_statement z start) m.is
+      ∙ (ap (λ (v : SpmdStatement). only (not (is_branch v)) (behind_word k span v begun)) m.holds
       ∙ (ap (λ (b : Bool). only (not b) (behind_word k span a begun)) may.0.1.plain
       ∙ (ap (behind_word k span a) (start_same line word.For old.rest.now) ∙ e))),
   subst (Begins (scope_of old) depth word.For) (sym m.is)
@@ -332,7 +332,7 @@ end_as old = record { back = λ w rest sound may e ends. ((tt, tt), (tt, tt), e,
 
 -- ---- the statements of a loop
 
-pub body_read : {old pushed new : Parser} {s : Statement} (name depth : ℕ) → pushed ≡ record old { loops = pushed.loops } → pushed.loops.items ≡ old.loops.items ++ name ∷ []
+pub body_read : {old pushed new : Parser} {s : SpmdStatement} (name depth : ℕ) → pushed ≡ record old { loops = pushed.loops } → pushed.loops.items ≡ old.loops.items ++ name ∷ []
     → IsInside pushed new depth s → HasRead (statements_part (within_loop name (scope_of old)) depth) old new s
 body_read {old} {pushed} {new} {s} name depth frame items inner = record {
   goes = record {
@@ -412,7 +412,7 @@ tail_none {old} {mid} {new} scope depth same again no_elif no_else_mid = record 
     no_else : old.fault ≡ None → piece_begins (piece.Word word.Else) (Some old.rest.now) ≡ false
     no_else = subst (λ (p : Parser). p.fault ≡ None → piece_begins (piece.Word word.Else) (Some p.rest.now) ≡ false) same no_else_mid
 
-    by_form : (x : Statement) (rest : List Token) → old.fault ≡ None → is_tail x ≡ true → after_statement x (Some old.rest.now) ≡ Some rest → Finds new rest (Unit {0})
+    by_form : (x : SpmdStatement) (rest : List Token) → old.fault ≡ None → is_tail x ≡ true → after_statement x (Some old.rest.now) ≡ Some rest → Finds new rest (Unit {0})
     by_form statement.Nothing rest sound tail e =
         inr (record { sound = ap (λ (p : Parser). p.fault) whole ∙ sound; left = ap (λ (p : Parser). p.rest.now) whole ∙ same_Some old.rest.now rest e }, tt)
     by_form (statement.Sequence' p a q b) rest sound tail e = absurd (let never : false ≡ true = tail in cc)

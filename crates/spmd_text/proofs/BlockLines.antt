@@ -2,8 +2,8 @@
 use Rattle.std.proofs.Common.{◌≡◌, ℕ, ◌-◌, ◌≤◌, pos, Bool, true, false, nat_eq, if◌then◌else◌, List, [], ◌∷◌, ◌++◌, Option, Some, None, arith, refl, ap, sym, subst, ◌∙◌}
 use Rattle.std.proofs.lemmas.Option.{same_Some}
 use Rattle.spmd_tree.specs.declared.tree.Expression.{Expression}
-use Rattle.spmd_tree.specs.declared.tree.Statement.{Statement}
-use Rattle.spmd_tree.specs.declared.tree.Statement.TheVariants as statement
+use Rattle.spmd_tree.specs.declared.tree.SpmdStatement.{SpmdStatement}
+use Rattle.spmd_tree.specs.declared.tree.SpmdStatement.TheVariants as statement
 use Rattle.spmd_text.specs.declared.fault.ParseReason.{ParseReason}
 use Rattle.spmd_text.specs.declared.fault.ParseReason.TheVariants.{Memory}
 use Rattle.spmd_text.specs.declared.lines.Span.{Span}
@@ -110,7 +110,7 @@ kind_simple word.Else level outer line next is plain w i = absurd (never_true pl
 kind_simple word.End level outer line next is plain w i = absurd (let never : None ≡ Some word.End = w in cc)
 kind_simple v level outer line next is plain w i = i
 
-pub simple_tells : {old new : Parser} {a : Statement} (block : Block) (outer : List Level) (depth line number : ℕ) (w : Word) → is_settled block ≡ true → keyword_of (piece.Word w) ≡ Some w → is_simple w ≡ true
+pub simple_tells : {old new : Parser} {a : SpmdStatement} (block : Block) (outer : List Level) (depth line number : ℕ) (w : Word) → is_settled block ≡ true → keyword_of (piece.Word w) ≡ Some w → is_simple w ≡ true
     → HasRead (begun_part (scope_of old) depth line w) old new a → number ≡ line → TellsLine (level_at block old depth ∷ outer) old new (from_word line w old) number
 simple_tells {old} {new} {a} block outer depth line number w is word_so plain r told =
     tells_here (kind_of (piece.Word w)) (level ∷ outer) old new here number refl (λ sound. told) never
@@ -301,7 +301,7 @@ pub record EndTells (old new : Parser) (before after_piece : ℕ) : Type 0 where
   pub stays : (why : ParseReason) → old.fault ≡ Some why → after_piece ≡ before
   pub tells : (level : Level) (outer : List Level) → EndsBlock level old → TellsLine (level ∷ outer) old new old.rest.now after_piece
 
-pub loop_tells : {old head body ended : Parser} {name : ℕ} {span : Span} {inner : Statement} {n m k : ℕ} (block : Block) (outer : List Level) (depth line : ℕ)
+pub loop_tells : {old head body ended : Parser} {name : ℕ} {span : Span} {inner : SpmdStatement} {n m k : ℕ} (block : Block) (outer : List Level) (depth line : ℕ)
     → is_settled block ≡ true → 1 ≤ depth → n ≡ line → HasRead (loop_head_parts (scope_of old)) old head ((name, span), tt)
     → HasRead (statements_part (within_loop name (scope_of old)) (depth - 1)) head body inner → TellsOf head body (within_loop name (scope_of head)) (depth - 1) n m
     → (body.fault ≡ None → is_end (next body) ≡ true) → EndTells body ended m k → TellsLine (level_at block old depth ∷ outer) old ended (from_word line word.For old) k
@@ -337,7 +337,7 @@ loop_tells {old} {head} {body} {ended} {name} {span} {inner} {n} {m} {k} block o
     }
 
 -- what stands behind the statements of a branch ends where the branch does
-tail_ends : (level : Level) (s : Parser) (t : Statement) → level.block ≡ block_behind t → EndsBranch s t → EndsBlock level s
+tail_ends : (level : Level) (s : Parser) (t : SpmdStatement) → level.block ≡ block_behind t → EndsBranch s t → EndsBlock level s
 tail_ends level s t is ends = by_open (lines.is_open t) refl
   where
     by_open : (b : Bool) → lines.is_open t ≡ b → EndsBlock level s
@@ -349,13 +349,13 @@ tail_ends level s t is ends = by_open (lines.is_open t) refl
         record { inner = ap is_inner at; ends = ends.ends; closed = λ f. absurd (let never : lines.last ≡ lines.branch = sym at ∙ f in cc) }
 
 -- What stands behind the statements of a branch is read and tells its line.
-pub record TailTells (old new : Parser) (scope : Scope) (depth before after_piece : ℕ) (s : Statement) : Type 0 where
+pub record TailTells (old new : Parser) (scope : Scope) (depth before after_piece : ℕ) (s : SpmdStatement) : Type 0 where
   pub reads : HasRead (tail_part scope depth) old new s
   pub stays : (why : ParseReason) → old.fault ≡ Some why → after_piece ≡ before
   pub tells : (outer : List Level) → TellsLine (level_at lines.branch old depth ∷ outer) old new old.rest.now after_piece
   pub ends : is_end (next old) ≡ true → new.fault ≡ None → EndsBranch new s
 
-pub branch_tells : {old head yes other ended : Parser} {c : Expression} {a b : Statement} {n m k j : ℕ} (chained : Bool) (block : Block) (outer : List Level) (depth line : ℕ)
+pub branch_tells : {old head yes other ended : Parser} {c : Expression} {a b : SpmdStatement} {n m k j : ℕ} (chained : Bool) (block : Block) (outer : List Level) (depth line : ℕ)
     → may_hold chained block ≡ true → 1 ≤ depth → n ≡ line → HasRead (head_parts old.in_parameter) old head (c, tt)
     → HasRead (statements_part (scope_of old) (depth - 1)) head yes a → TellsOf head yes (scope_of head) (depth - 1) n m → (yes.fault ≡ None → is_end (next yes) ≡ true)
     → TailTells yes other (scope_of old) (depth - 1) m k b → EndTells other ended k j
@@ -424,7 +424,7 @@ else_then_tells {old} {head} {new} {n} {m} outer depth line told first sticks te
     }
 
 -- an `else` is the last branch
-pub else_shut : {scope : Scope} {depth : ℕ} (s : Statement) → Begins scope depth word.Else s → lines.is_open s ≡ true → ⊥
+pub else_shut : {scope : Scope} {depth : ℕ} (s : SpmdStatement) → Begins scope depth word.Else s → lines.is_open s ≡ true → ⊥
 else_shut s may e = let i = is_else s may.one may.begins in never_true (sym (ap lines.is_open i.is) ∙ e)
 
 not_going : (p : Piece) → nat_eq (code p) (code (piece.Word word.Elif)) ≡ false → nat_eq (code p) (code (piece.Word word.Else)) ≡ false → goes_on p ≡ false
@@ -440,7 +440,7 @@ none_ends {old} {mid} {new} same again no_elif no_else ends = record {
   closed = λ e. ap (λ (s : Parser). goes_on (next s)) (again ∙ same) ∙ not_going (next old) no_elif (ap (λ (s : Parser). nat_eq (code (next s)) (code (piece.Word word.Else))) (sym same) ∙ no_else);
 }
 
-pub when_ends : {s new : Parser} {line : ℕ} {chained : Bool} {c : Expression} {a b made : Statement} → EndsBranch s b → IsWhen line chained c a b made → new ≡ s → EndsBranch new made
+pub when_ends : {s new : Parser} {line : ℕ} {chained : Bool} {c : Expression} {a b made : SpmdStatement} → EndsBranch s b → IsWhen line chained c a b made → new ≡ s → EndsBranch new made
 when_ends {s} {new} ends m same = record {
   ends = ap (λ (p : Parser). is_end (next p)) same ∙ ends.ends;
   closed = λ e. ap (λ (p : Parser). goes_on (next p)) same ∙ ends.closed (sym (ap lines.is_open m.is ∙ ap lines.is_open m.second_holds) ∙ e);
@@ -452,7 +452,7 @@ made_ends makes ends sound =
     ap (λ (p : Parser). is_end (next p)) m.0 ∙ ends (sym (ap (λ (p : Parser). p.fault) m.0) ∙ sound)
 
 -- the same, where what stands behind them is kept
-pub kept_ends : {s new : Parser} {a b : Statement} → EndsBranch s a → MakesOrLacksMemory s new (b ≡ a) → new.fault ≡ None → EndsBranch new b
+pub kept_ends : {s new : Parser} {a b : SpmdStatement} → EndsBranch s a → MakesOrLacksMemory s new (b ≡ a) → new.fault ≡ None → EndsBranch new b
 kept_ends {s} {new} {a} {b} ends makes sound =
     let m = made_sound makes sound in
     subst (λ (p : Parser). EndsBranch p b) (sym m.0) (subst (EndsBranch s) (sym m.1) ends)
@@ -475,7 +475,7 @@ pub record LinesSoFar (old s : Parser) (depth before number : ℕ) : Type 0 wher
   pub runs : (block : Block) (outer : List Level) → is_settled block ≡ true → s.fault ≡ None → RunsTo (level_at block old depth ∷ outer) (level_at block old depth ∷ outer) old.rest.now s.rest.now
   pub tells : (block : Block) (outer : List Level) → is_settled block ≡ true → TellsLine (level_at block old depth ∷ outer) old s old.rest.now number
 
-pub record SoFar (old s : Parser) (depth : ℕ) (list : List Statement) (before number : ℕ) : Type 0 where
+pub record SoFar (old s : Parser) (depth : ℕ) (list : List SpmdStatement) (before number : ℕ) : Type 0 where
   pub row : RowSoFar old s depth list
   pub lines : LinesSoFar old s depth before number
 
@@ -486,7 +486,7 @@ lines_begun old depth number = record {
   tells = λ block outer is. tells_none (level_at block old depth ∷ outer) old old old.rest.now number refl;
 }
 
-pub lines_more : {old s mid new : Parser} {depth before number more : ℕ} {item : Statement} {Made : Type 0} (w : Word) → LinesSoFar old s depth before number → Keeps old s → is_first w ≡ true
+pub lines_more : {old s mid new : Parser} {depth before number more : ℕ} {item : SpmdStatement} {Made : Type 0} (w : Word) → LinesSoFar old s depth before number → Keeps old s → is_first w ≡ true
     → HasRead (one_part (scope_of s) depth w) s mid item → TellsOf s mid (scope_of s) depth number more → MakesOrLacksMemory mid new Made → LinesSoFar old new depth before more
 lines_more {old} {s} {mid} {new} {depth} {before} {number} {more} {item} {Made} w so_far goes first reads tells makes = record {
   stays = λ why e. tells.stays why (goes.sticks why e) ∙ so_far.stays why e;

@@ -3,8 +3,8 @@ use Rattle.std.proofs.Common.{◌≡◌, ℕ, pos, Bool, true, false, not, ◌&&
 use Rattle.std.proofs.lemmas.Bool.{eq-eqb}
 use Rattle.std.proofs.lemmas.Option.{same_Some}
 use Rattle.spmd_tree.specs.declared.tree.Expression.{Expression}
-use Rattle.spmd_tree.specs.declared.tree.Statement.{Statement}
-use Rattle.spmd_tree.specs.declared.tree.Statement.TheVariants as statement
+use Rattle.spmd_tree.specs.declared.tree.SpmdStatement.{SpmdStatement}
+use Rattle.spmd_tree.specs.declared.tree.SpmdStatement.TheVariants as statement
 use Rattle.spmd_text.specs.declared.piece.Word.{Word}
 use Rattle.spmd_text.specs.declared.piece.Word.TheVariants as word
 use Rattle.spmd_text.specs.declared.piece.Piece.TheVariants as piece
@@ -36,7 +36,7 @@ end_of chained z e = none_of (after_end chained) (end_strict chained) z e
 gap_of : (n : ℕ) (z : Rest) → z ≡ None → after_gap (pos n) z ≡ None
 gap_of n z e = none_of (after_gap (pos n)) (gap_strict n) z e
 
-pub statement_strict : (s : Statement) → after_statement s None ≡ None
+pub statement_strict : (s : SpmdStatement) → after_statement s None ≡ None
 statement_strict statement.Nothing = refl
 statement_strict (statement.Sequence' p a q b) = only_of _ _ (none_of (after_statement b) (statement_strict b) _ (statement_strict a))
 statement_strict (statement.Parameter line name e) = after_of piece.LineEnd _ (optional_strict piece.Equals e)
@@ -69,7 +69,7 @@ taken_begins p [] between e = absurd (none_some between e)
 taken_begins p (t ∷ ts) between e = (only_left (is_piece (piece.Word p) t.piece) (Some ts) between e).0
 
 -- a statement that stands here begins with its word
-pub one_begins : (s : Statement) → is_one s ≡ true → (here rest : List Token) → after_statement s (Some here) ≡ Some rest → piece_begins (piece.Word (first_word s)) (Some here) ≡ true
+pub one_begins : (s : SpmdStatement) → is_one s ≡ true → (here rest : List Token) → after_statement s (Some here) ≡ Some rest → piece_begins (piece.Word (first_word s)) (Some here) ≡ true
 one_begins statement.Nothing one here rest e = absurd (let never : false ≡ true = one in cc)
 one_begins (statement.Sequence' p a q b) one here rest e = absurd (let never : false ≡ true = one in cc)
 one_begins (statement.Parameter line name v) one here rest e = absurd (let never : false ≡ true = one in cc)
@@ -124,16 +124,16 @@ same_chained false false e = refl
 same_chained true false e = absurd (let never : word.Elif ≡ word.If = e in cc)
 same_chained false true e = absurd (let never : word.If ≡ word.Elif = e in cc)
 
-pub record IsBranch (chained : Bool) (s : Statement) : Type 0 where
+pub record IsBranch (chained : Bool) (s : SpmdStatement) : Type 0 where
   pub line : ℕ
   pub condition : Expression
   pub p : Place
-  pub yes : Statement
+  pub yes : SpmdStatement
   pub q : Place
-  pub other : Statement
+  pub other : SpmdStatement
   pub is : s ≡ statement.When' line chained condition p yes q other
 
-pub is_when : (chained : Bool) (s : Statement) → is_one s ≡ true → first_word s ≡ branch_word chained → IsBranch chained s
+pub is_when : (chained : Bool) (s : SpmdStatement) → is_one s ≡ true → first_word s ≡ branch_word chained → IsBranch chained s
 unfolding is_branch_word
 is_when k statement.Nothing one e = absurd (let never : false ≡ true = one in cc)
 is_when k (statement.Sequence' p a q b) one e = absurd (let never : false ≡ true = one in cc)
@@ -147,12 +147,12 @@ is_when k (statement.Call line c) one e = absurd (no_call c (branch_word k) (no_
 is_when k (statement.WaitAll line requests) one e = absurd (other_word word.Waitall k refl e)
 is_when k (statement.Unreached line) one e = absurd (other_word word.Error k refl e)
 
-pub record IsElse (s : Statement) : Type 0 where
+pub record IsElse (s : SpmdStatement) : Type 0 where
   pub p : Place
-  pub inner : Statement
+  pub inner : SpmdStatement
   pub is : s ≡ statement.Otherwise' p inner
 
-pub is_else : (s : Statement) → is_one s ≡ true → first_word s ≡ word.Else → IsElse s
+pub is_else : (s : SpmdStatement) → is_one s ≡ true → first_word s ≡ word.Else → IsElse s
 is_else statement.Nothing one e = absurd (let never : false ≡ true = one in cc)
 is_else (statement.Sequence' p a q b) one e = absurd (let never : false ≡ true = one in cc)
 is_else (statement.Parameter line name v) one e = absurd (let never : false ≡ true = one in cc)
@@ -165,17 +165,17 @@ is_else (statement.Call line c) one e = absurd (no_call c word.Else refl e)
 is_else (statement.WaitAll line requests) one e = absurd (let never : word.Waitall ≡ word.Else = e in cc)
 is_else (statement.Unreached line) one e = absurd (let never : word.Error ≡ word.Else = e in cc)
 
-pub record IsLoop (s : Statement) : Type 0 where
+pub record IsLoop (s : SpmdStatement) : Type 0 where
   pub line : ℕ
   pub name : ℕ
   pub first : Expression
   pub last : Expression
   pub step : ℕ
   pub p : Place
-  pub body : Statement
+  pub body : SpmdStatement
   pub is : s ≡ statement.Repeat' line name first last step p body
 
-pub is_loop : (s : Statement) → is_one s ≡ true → first_word s ≡ word.For → IsLoop s
+pub is_loop : (s : SpmdStatement) → is_one s ≡ true → first_word s ≡ word.For → IsLoop s
 is_loop statement.Nothing one e = absurd (let never : false ≡ true = one in cc)
 is_loop (statement.Sequence' p a q b) one e = absurd (let never : false ≡ true = one in cc)
 is_loop (statement.Parameter line name v) one e = absurd (let never : false ≡ true = one in cc)
@@ -208,7 +208,7 @@ pub elif_ends : (rest : List Token) → piece_begins (piece.Word word.Elif) (Som
 elif_ends rest e = or_right _ _ (or_left (piece_begins (piece.Word word.Elif) (Some rest)) (piece_begins piece.TextEnd (Some rest)) e)
 
 -- statements end before a branch behind them, or before what stands behind it
-pub tail_ends : (s : Statement) (here rest : List Token) → is_tail s ≡ true → after_statement s (Some here) ≡ Some rest → piece_begins (piece.Word word.End) (Some rest) ≡ true
+pub tail_ends : (s : SpmdStatement) (here rest : List Token) → is_tail s ≡ true → after_statement s (Some here) ≡ Some rest → piece_begins (piece.Word word.End) (Some rest) ≡ true
     → ends_statements here ≡ true
 unfolding is_tail
 tail_ends statement.Nothing here rest tail e ends = ap ends_statements (same_Some here rest e) ∙ end_ends rest ends

@@ -1,7 +1,7 @@
 -- The arguments of a call, read one after another, are those of its form.
 use Rattle.std.proofs.Common.{◌≡◌, Bool, true, false, List, Option, Some, None, is_some, refl, ap, sym, subst, ◌∙◌}
-use Rattle.spmd_tree.specs.declared.tree.Mode.{Mode}
-use Rattle.spmd_tree.specs.declared.tree.Kind.{Kind}
+use Rattle.spmd_tree.specs.declared.tree.SendMode.{SendMode}
+use Rattle.spmd_tree.specs.declared.tree.CollectiveKind.{CollectiveKind}
 use Rattle.spmd_tree.specs.declared.tree.Expression.{Expression}
 use Rattle.spmd_tree.specs.declared.tree.LabelForm.{LabelForm}
 use Rattle.spmd_tree.specs.declared.tree.GroupForm.{GroupForm}
@@ -26,7 +26,7 @@ abbrev pub comma_part : SyntaxPart (Unit {0})
 comma_part = piece_part piece.Comma
 
 -- a send of this mode, started or not
-pub record IsSend (mode : Mode) (started : Bool) (w : Arguments) : Type 0 where
+pub record IsSend (mode : SendMode) (started : Bool) (w : Arguments) : Type 0 where
   pub request : Option LabelForm
   pub d : Expression
   pub t : Expression
@@ -34,8 +34,8 @@ pub record IsSend (mode : Mode) (started : Bool) (w : Arguments) : Type 0 where
   pub is : w ≡ call.Send mode request d t c
   pub starts : is_some request ≡ started
 
-is_send : (mode : Mode) (started : Bool) (w : Arguments) → form_of_call w ≡ form.Send mode started → IsSend mode started w
-is_send mode started (call.Send other request d t c) e = record { request = request; d = d; t = t; c = c; is = ap (λ (m : Mode). call.Send m request d t c) cc; starts = cc }
+is_send : (mode : SendMode) (started : Bool) (w : Arguments) → form_of_call w ≡ form.Send mode started → IsSend mode started w
+is_send mode started (call.Send other request d t c) e = record { request = request; d = d; t = t; c = c; is = ap (λ (m : SendMode). call.Send m request d t c) cc; starts = cc }
 is_send mode started (call.Receive request s t c) e = absurd cc
 is_send mode started (call.MatchedProbe handle s t c) e = absurd cc
 is_send mode started (call.Probe s t c) e = absurd cc
@@ -150,19 +150,19 @@ is_send_receive (call.SendReceive d t s u c) e = record { d = d; t = t; s = s; u
 is_send_receive (call.Collective k root g c) e = absurd cc
 
 -- a collective call, with a root or without
-pub record IsCollective (k : Kind) (rooted : Bool) (w : Arguments) : Type 0 where
+pub record IsCollective (k : CollectiveKind) (rooted : Bool) (w : Arguments) : Type 0 where
   pub root : Option Expression
   pub g : Option GroupForm
   pub c : Option Expression
   pub is : w ≡ call.Collective k root g c
   pub is_so : is_rooted k ≡ rooted
 
-collective_of : (k other : Kind) (rooted : Bool) (root : Option Expression) (g : Option GroupForm) (c : Option Expression)
+collective_of : (k other : CollectiveKind) (rooted : Bool) (root : Option Expression) (g : Option GroupForm) (c : Option Expression)
     → other ≡ k → is_rooted other ≡ rooted → IsCollective k rooted (call.Collective other root g c)
 collective_of k other rooted root g c e f =
-    record { root = root; g = g; c = c; is = ap (λ (m : Kind). call.Collective m root g c) e; is_so = ap is_rooted (sym e) ∙ f }
+    record { root = root; g = g; c = c; is = ap (λ (m : CollectiveKind). call.Collective m root g c) e; is_so = ap is_rooted (sym e) ∙ f }
 
-is_collective : (k : Kind) (rooted : Bool) (w : Arguments) → form_of_call w ≡ form.Collective k rooted → IsCollective k rooted w
+is_collective : (k : CollectiveKind) (rooted : Bool) (w : Arguments) → form_of_call w ≡ form.Collective k rooted → IsCollective k rooted w
 is_collective k rooted (call.Send mode request d t c) e = absurd cc
 is_collective k rooted (call.Receive request s t c) e = absurd cc
 is_collective k rooted (call.MatchedProbe handle s t c) e = absurd cc
@@ -175,7 +175,7 @@ is_collective k rooted (call.Collective other root g c) e =
 
 -- ---- the parts of a call, one after another
 
-pub send_as : (old : Parser) (mode : Mode) (started : Bool) (request : Option LabelForm) (d : Expression) (t : Expression) (c : Option Expression)
+pub send_as : (old : Parser) (mode : SendMode) (started : Bool) (request : Option LabelForm) (d : Expression) (t : Expression) (c : Option Expression)
     → IsAs (then_part (then_part (then_part (then_part (request_part old.in_parameter old.names.now started) (value_part old.in_parameter)) (comma_part)) (value_part old.in_parameter)) (comm_part old.in_parameter)) (arguments_part old.in_parameter old.names.now (form.Send mode started)) old ((((request, d), tt), t), c) (call.Send mode request d t c)
 send_as old mode started request d t c = record { back = back; stands = λ rest e may. e; may = λ m. (ap (form.Send mode) m.0.0.0.0.0, (m.0.0.0.0.1, m.0.0.0.1, m.0.1, m.1)) }
   where
@@ -272,7 +272,7 @@ so_same false false e = refl
 abbrev pub at_line_end : List Token → Bool
 at_line_end rest = piece_begins piece.LineEnd (Some rest)
 
-pub collective_as : (old : Parser) (k : Kind) (rooted : Bool) (root : Option Expression) (g : Option GroupForm) (c : Option Expression) → rooted ≡ is_rooted k
+pub collective_as : (old : Parser) (k : CollectiveKind) (rooted : Bool) (root : Option Expression) (g : Option GroupForm) (c : Option Expression) → rooted ≡ is_rooted k
     → IsAs (then_part (then_part (root_part old.in_parameter rooted) (group_part old.in_parameter)) (ended (comm_part old.in_parameter) at_line_end))
     (arguments_part old.in_parameter old.names.now (form.Collective k rooted)) old ((root, g), c) (call.Collective k root g c)
 collective_as old k rooted root g c is_so = record {

@@ -3,14 +3,14 @@ use Rattle.std.proofs.Common.{◌≡◌, ℕ, pos, Bool, true, false, not, ◌&&
 use Rattle.std.proofs.lemmas.List.{append_assoc, append-nil}
 use Rattle.std.specs.Global.{Vec}
 use Rattle.spmd_tree.specs.declared.tree.Expression.{Expression}
-use Rattle.spmd_tree.specs.declared.tree.Statement.{Statement}
-use Rattle.spmd_tree.specs.declared.tree.Statement.TheVariants as statement
+use Rattle.spmd_tree.specs.declared.tree.SpmdStatement.{SpmdStatement}
+use Rattle.spmd_tree.specs.declared.tree.SpmdStatement.TheVariants as statement
 use Rattle.spmd_text.specs.declared.lines.Span.{Span}
 use Rattle.spmd_text.specs.declared.piece.Word.TheVariants as word
 use Rattle.spmd_text.specs.declared.piece.Piece.TheVariants as piece
 use Rattle.spmd_text.specs.declared.piece.Token.{Token}
-use Rattle.spmd_text.specs.declared.reading.Policy.{Policy}
-use Rattle.spmd_text.specs.declared.reading.Policy.TheVariants as policy
+use Rattle.spmd_text.specs.declared.reading.SpmdPolicy.{SpmdPolicy}
+use Rattle.spmd_text.specs.declared.reading.SpmdPolicy.TheVariants as policy
 use Rattle.spmd_text.specs.parts.Joints.{Place}
 use Rattle.spmd_text.specs.Limits.{IsTreeWithin}
 use Rattle.spmd_text.specs.Spelling.{Rest, after_piece, after_end, after_head, after_optional, after_parameter, after_policy, after_span, after_statement, after_variable, piece_begins, is_any, is_branch, is_ordered, is_tail, only, word_of_policy}
@@ -36,7 +36,7 @@ use Rattle.spmd_text.proofs.WholeLines.{else_line, end_line, head_line, heading_
 
 -- statements stand here, and what goes on stands behind them
 record Inner (scope : Scope) (depth : ℕ) (here : List Token) (GoesOn : List Token → Type 0) : Type 0 where
-  pub tree : Statement
+  pub tree : SpmdStatement
   pub mid : List Token
   pub may : MayStatements scope depth tree
   pub spelled : after_statement tree (Some here) ≡ Some mid
@@ -44,7 +44,7 @@ record Inner (scope : Scope) (depth : ℕ) (here : List Token) (GoesOn : List To
 
 -- the same for what stands behind the statements of a branch
 record Tail (scope : Scope) (depth : ℕ) (here : List Token) (GoesOn : List Token → Type 0) : Type 0 where
-  pub tree : Statement
+  pub tree : SpmdStatement
   pub mid : List Token
   pub may : MayTail scope depth tree
   pub spelled : after_statement tree (Some here) ≡ Some mid
@@ -63,14 +63,14 @@ abbrev grown : List ℕ → Scope → Scope
 grown names scope = record { in_parameter = scope.in_parameter; names = scope.names; parameters = scope.parameters ++ names; loops = scope.loops }
 
 record Listed (scope : Scope) (depth : ℕ) (here : List Token) : Type 0 where
-  pub heads : Statement
+  pub heads : SpmdStatement
   pub mid : List Token
   pub may : ObeyParameters scope.parameters heads
   pub spelled : after_statement heads (Some here) ≡ Some mid
   pub on : Plain (grown (parameters_of heads) scope) depth mid
 
 record Headed (scope : Scope) (depth : ℕ) (here : List Token) : Type 0 where
-  pub policy : Policy
+  pub policy : SpmdPolicy
   pub mid : List Token
   pub spelled : after_policy policy (Some here) ≡ Some mid
   pub on : Listed scope depth mid
@@ -104,13 +104,13 @@ no_tail : (scope : Scope) (depth : ℕ) (here : List Token) (GoesOn : List Token
 unfolding is_tail
 no_tail scope depth here GoesOn on = record { tree = statement.Nothing; mid = here; may = record { tail = refl; obeys = tt }; spelled = refl; on = on }
 
-sequence_spelled : (at : Place) (a b : Statement) (here mid rest : List Token) → is_branch a ≡ false → is_branch b ≡ false → after_statement a (Some here) ≡ Some mid → after_statement b (Some mid) ≡ Some rest
+sequence_spelled : (at : Place) (a b : SpmdStatement) (here mid rest : List Token) → is_branch a ≡ false → is_branch b ≡ false → after_statement a (Some here) ≡ Some mid → after_statement b (Some mid) ≡ Some rest
     → after_statement (statement.Sequence' at a at b) (Some here) ≡ Some rest
 sequence_spelled at a b here mid rest p q e f =
     ap (λ (z : Rest). only (not (is_branch a) && not (is_branch b)) (after_statement b z)) e
     ∙ (ap (λ (x : Bool). only x (after_statement b (Some mid))) (both_plain (is_branch a) (is_branch b) p q) ∙ f)
 
-one_more : (at : Place) (scope : Scope) (depth : ℕ) (s : Statement) (here mid : List Token) (GoesOn : List Token → Type 0) → MayOne scope depth s → after_statement s (Some here) ≡ Some mid
+one_more : (at : Place) (scope : Scope) (depth : ℕ) (s : SpmdStatement) (here mid : List Token) (GoesOn : List Token → Type 0) → MayOne scope depth s → after_statement s (Some here) ≡ Some mid
     → Inner scope depth mid GoesOn → Inner scope depth here GoesOn
 one_more at scope depth s here mid GoesOn may e inner = record {
   tree = statement.Sequence' at s at inner.tree;
@@ -150,7 +150,7 @@ not_policy here other = by (piece_begins (piece.Word word.Policy) (Some here)) r
     by true e = absurd (never_taken (sym other ∙ ap is_policy (kind_begins (piece.Word word.Policy) here e)))
 
 -- a statement before what fills
-one_before : (at : Place) (b : Block) (scope : Scope) (depth : ℕ) (Outer : List Token → Type 0) (s : Statement) (here mid : List Token) → takes_statement b ≡ true → is_policy (kind_at here) ≡ false
+one_before : (at : Place) (b : Block) (scope : Scope) (depth : ℕ) (Outer : List Token → Type 0) (s : SpmdStatement) (here mid : List Token) → takes_statement b ≡ true → is_policy (kind_at here) ≡ false
     → MayOne scope depth s → after_statement s (Some here) ≡ Some mid → FillsAt (settled b) scope depth Outer mid → FillsAt b scope depth Outer here
 one_before at lines.start scope depth Outer s here mid is other may e f = absurd (let never : false ≡ true = is in cc)
 one_before at lines.headed scope depth Outer s here mid is other may e f =
@@ -173,7 +173,7 @@ at_level : (levels outer : List Level) (l : Level) (here : List Token) → level
 at_level levels outer l here e f = subst (λ (ls : List Level). Fills ls here) (sym e) f
 
 -- a line of a statement that stands at these levels, up to the statement's end
-before_all : (at : Place) (l : Level) (outer : List Level) (s : Statement) (here mid : List Token) → takes_statement l.block ≡ true → is_policy (kind_at here) ≡ false → MayOne l.scope l.depth s
+before_all : (at : Place) (l : Level) (outer : List Level) (s : SpmdStatement) (here mid : List Token) → takes_statement l.block ≡ true → is_policy (kind_at here) ≡ false → MayOne l.scope l.depth s
     → after_statement s (Some here) ≡ Some mid → Fills (behind_one l ∷ outer) mid → Fills (l ∷ outer) here
 before_all at l outer s here mid is other may e f = one_before at l.block l.scope l.depth (Fills outer) s here mid is other may e f
 
@@ -214,14 +214,14 @@ listed_at lines.last scope depth Outer here is other f = absurd (let never : fal
 -- ---- blocks
 
 -- a loop, from its head's line and what stands behind that
-loop_spelled : (at : Place) (number name : ℕ) (span : Span) (body : Statement) (here mid rest final : List Token) → is_branch body ≡ false
+loop_spelled : (at : Place) (number name : ℕ) (span : Span) (body : SpmdStatement) (here mid rest final : List Token) → is_branch body ≡ false
     → after_span span.first span.last (pos span.step) (after_variable number word.For name (Some here)) ≡ Some mid → after_statement body (Some mid) ≡ Some rest → after_end false (Some rest) ≡ Some final
     → after_statement (statement.Repeat' number name span.first span.last span.step at body) (Some here) ≡ Some final
 loop_spelled at number name span body here mid rest final p e f g =
     ap (λ (z : Rest). only (not (is_branch body)) (after_end false (after_statement body z))) e
     ∙ (ap (λ (z : Rest). only (not (is_branch body)) (after_end false z)) f ∙ (ap (λ (b : Bool). only (not b) (after_end false (Some rest))) p ∙ g))
 
-branch_spelled : (at : Place) (number : ℕ) (chained : Bool) (c : Expression) (first second : Statement) (here mid rest behind final : List Token) → is_branch first ≡ false → is_tail second ≡ true
+branch_spelled : (at : Place) (number : ℕ) (chained : Bool) (c : Expression) (first second : SpmdStatement) (here mid rest behind final : List Token) → is_branch first ≡ false → is_tail second ≡ true
     → after_head number chained c (Some here) ≡ Some mid → after_statement first (Some mid) ≡ Some rest → after_statement second (Some rest) ≡ Some behind → after_end chained (Some behind) ≡ Some final
     → after_statement (statement.When' number chained c at first at second) (Some here) ≡ Some final
 branch_spelled at number chained c first second here mid rest behind final p q e f g h =
@@ -231,7 +231,7 @@ branch_spelled at number chained c first second here mid rest behind final p q e
     ∙ (ap (λ (b : Bool). only (not b && is_tail second) (after_end chained (Some behind))) p
     ∙ (ap (λ (b : Bool). only b (after_end chained (Some behind))) q ∙ h))))
 
-else_spelled : (at : Place) (inner : Statement) (here mid rest : List Token) → is_branch inner ≡ false → after_piece piece.LineEnd (after_piece (piece.Word word.Else) (Some here)) ≡ Some mid
+else_spelled : (at : Place) (inner : SpmdStatement) (here mid rest : List Token) → is_branch inner ≡ false → after_piece piece.LineEnd (after_piece (piece.Word word.Else) (Some here)) ≡ Some mid
     → after_statement inner (Some mid) ≡ Some rest → after_statement (statement.Otherwise' at inner) (Some here) ≡ Some rest
 else_spelled at inner here mid rest p e f =
     ap (λ (z : Rest). only (not (is_branch inner)) (after_statement inner z)) e ∙ (ap (λ (b : Bool). only (not b) (after_statement inner (Some mid))) p ∙ f)
@@ -300,7 +300,7 @@ step_back at levels line next (lines.repeat h) rest f =
     let here = line ++ rest in
     let g = subst (λ (ls : List Level). Fills ls rest) h.is f in
     let e = (loop_line h.number h.name h.span).more line rest h.spelled in
-    let s : Statement = statement.Repeat' h.number h.name h.span.first h.span.last h.span.step at g.tree in
+    let s : SpmdStatement = statement.Repeat' h.number h.name h.span.first h.span.last h.span.step at g.tree in
     let spelled = loop_spelled at h.number h.name h.span g.tree here rest g.mid g.on.mid g.may.plain e g.spelled g.on.spelled in
     let kind = kind_begins (piece.Word word.For) here (one_begins s refl here g.on.mid spelled) in
     at_level levels h.outer h.level here h.here
@@ -310,7 +310,7 @@ step_back at levels line next (lines.when h) rest f =
     let here = line ++ rest in
     let g = subst (λ (ls : List Level). Fills ls rest) h.is f in
     let e = (head_line h.number false h.condition).more line rest h.spelled in
-    let s : Statement = statement.When' h.number false h.condition at g.tree at g.on.tree in
+    let s : SpmdStatement = statement.When' h.number false h.condition at g.tree at g.on.tree in
     let spelled = branch_spelled at h.number false h.condition g.tree g.on.tree here rest g.mid g.on.mid g.on.on.mid g.may.plain g.on.may.tail e g.spelled g.on.spelled g.on.on.spelled in
     let kind = kind_begins (piece.Word word.If) here (one_begins s refl here g.on.on.mid spelled) in
     at_level levels h.outer h.level here h.here
@@ -395,12 +395,12 @@ closing_of (l ∷ outer) = closing_at l.block l.scope l.depth (Fills outer) (clo
 
 fills_readable : (at : Place) (names : List (Vec ℕ)) (here : List Token) → Fills (begin names ∷ []) here → AreReadablePieces names here
 fills_readable at names here f =
-    let heads : Statement = f.on.on.heads in
-    let tree : Statement = f.on.on.on.tree in
-    let s : Statement = statement.Sequence' at heads at tree in
+    let heads : SpmdStatement = f.on.on.heads in
+    let tree : SpmdStatement = f.on.on.on.tree in
+    let s : SpmdStatement = statement.Sequence' at heads at tree in
     let ordered : is_ordered s ≡ true = text_ordered names s (f.on.on.may, f.on.on.on.may.obeys) in
     let spelled = sequence_spelled at heads tree f.on.mid f.on.on.mid f.on.on.on.mid (parameters_plain [] heads f.on.on.may) f.on.on.on.may.plain f.on.on.spelled f.on.on.on.spelled in
-    let p : Policy = f.on.policy in
+    let p : SpmdPolicy = f.on.policy in
     record {
       policy = p;
       program = s;

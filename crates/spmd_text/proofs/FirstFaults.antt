@@ -4,12 +4,12 @@ use Rattle.std.proofs.Common.{◌≡◌, ℕ, ◌≤◌, Bool, true, false, not,
 use Rattle.std.proofs.lemmas.List.{append_assoc, append-nil}
 use Rattle.std.proofs.lemmas.Option.{same_Some}
 use Rattle.std.specs.Global.{Vec}
-use Rattle.spmd_tree.specs.declared.tree.Statement.{Statement}
-use Rattle.spmd_tree.specs.declared.tree.Statement.TheVariants as statement
+use Rattle.spmd_tree.specs.declared.tree.SpmdStatement.{SpmdStatement}
+use Rattle.spmd_tree.specs.declared.tree.SpmdStatement.TheVariants as statement
 use Rattle.spmd_text.specs.declared.piece.Word.TheVariants as word
 use Rattle.spmd_text.specs.declared.piece.Piece.TheVariants as piece
 use Rattle.spmd_text.specs.declared.piece.Token.{Token}
-use Rattle.spmd_text.specs.declared.reading.Policy.{Policy}
+use Rattle.spmd_text.specs.declared.reading.SpmdPolicy.{SpmdPolicy}
 use Rattle.spmd_text.specs.parts.Joints.{Place}
 use Rattle.spmd_text.specs.Limits.{IsTreeWithin}
 use Rattle.spmd_text.specs.Spelling.{Rest, after_piece, after_policy, after_statement, after_text, piece_begins, is_any, is_branch, is_ordered, only, word_of_policy}
@@ -80,7 +80,7 @@ heading_runs scope depth here rest e =
     one_step (only_level lines.start scope depth) (only_level lines.headed scope depth) a.line here rest a.split
     (lines.heading (record { level = record { block = lines.start; scope = scope; depth = depth }; outer = []; here = refl; first = refl; spelled = a.spelled; is = refl }))
 
-pub policy_runs : (p : Policy) (scope : Scope) (depth : ℕ) (here rest : List Token) → after_policy p (Some here) ≡ Some rest → PolicyRuns scope depth here rest
+pub policy_runs : (p : SpmdPolicy) (scope : Scope) (depth : ℕ) (here rest : List Token) → after_policy p (Some here) ≡ Some rest → PolicyRuns scope depth here rest
 policy_runs p scope depth here rest e = by (piece_begins (piece.Word word.Policy) (Some here)) refl
   where
     by : (b : Bool) → piece_begins (piece.Word word.Policy) (Some here) ≡ b → PolicyRuns scope depth here rest
@@ -115,7 +115,7 @@ grown names scope = record { in_parameter = scope.in_parameter; names = scope.na
 unfoldable pub with_parameters : Scope → List ℕ → Scope
 with_parameters scope ps = record { in_parameter = scope.in_parameter; names = scope.names; parameters = ps; loops = scope.loops }
 
-pub parameters_run : (s : Statement) (b : Block) (scope : Scope) (depth : ℕ) (here rest : List Token) → lists b ≡ true → ObeyParameters scope.parameters s → after_statement s (Some here) ≡ Some rest
+pub parameters_run : (s : SpmdStatement) (b : Block) (scope : Scope) (depth : ℕ) (here rest : List Token) → lists b ≡ true → ObeyParameters scope.parameters s → after_statement s (Some here) ≡ Some rest
     → RunsEarly b scope (grown (parameters_of s) scope) depth here rest
 unfolding with_parameters
 parameters_run statement.Nothing b scope depth here rest early o e =
@@ -298,9 +298,9 @@ runs_from {a} {b} {here} {rest} one others = subst (λ (xs : List Token). Runs [
 takes_left : (F : Rest → Rest) (z : Rest) (left rest : List Token) → z ≡ Some left → F z ≡ Some rest → F (Some left) ≡ Some rest
 takes_left F z left rest is e = ap F (sym is) ∙ e
 
-text_runs : (names : List (Vec ℕ)) (p : Policy) (s : Statement) (here : List Token) → after_text p s (Some here) ≡ Some [] → ObeysText names s → Runs [] (begin names ∷ []) here
+text_runs : (names : List (Vec ℕ)) (p : SpmdPolicy) (s : SpmdStatement) (here : List Token) → after_text p s (Some here) ≡ Some [] → ObeysText names s → Runs [] (begin names ∷ []) here
 text_runs names p (statement.Sequence' q x r y) here e o =
-    let s : Statement = statement.Sequence' q x r y in
+    let s : SpmdStatement = statement.Sequence' q x r y in
     let start : Rest = after_piece piece.LineEnd (after_piece (piece.Word word.Spmd) (Some here)) in
     let whole = only_left (is_ordered s) (after_piece piece.TextEnd (after_statement s (after_policy p start))) [] e in
     let fourth = left_before (after_piece piece.TextEnd) refl (after_statement s (after_policy p start)) [] whole.1 in
@@ -321,7 +321,7 @@ text_runs names p (statement.Sequence' q x r y) here e o =
     (runs_from {a = only_level lines.headed scope 32} {b = only_level lined.block scope 32} {here = first.0} {rest = second.0} lined.runs
     (runs_from {a = only_level lined.block scope 32} {b = only_level listed.block (behind_parameters names x) 32} {here = second.0} {rest = third.0} listed.runs behind_heads))
   where
-    plain_right : (a b : Statement) → (not (is_branch a) && not (is_branch b)) ≡ true → is_branch b ≡ false
+    plain_right : (a b : SpmdStatement) → (not (is_branch a) && not (is_branch b)) ≡ true → is_branch b ≡ false
     plain_right a b both = not_so (is_branch b) (and_right (not (is_branch a)) (not (is_branch b)) both)
 text_runs names p statement.Nothing here e o = absurd o
 text_runs names p (statement.Parameter line name v) here e o = absurd o

@@ -1,8 +1,8 @@
 -- Statements one after another: a tree of them and the list say the same.
 use Rattle.std.proofs.Common.{◌≡◌, ◌⊎◌, ℕ, Bool, true, false, not, ◌&&◌, ◌||◌, List, [], ◌∷◌, ◌++◌, Option, Some, None, refl, ap, sym, subst, ◌∙◌, inl, inr}
 use Rattle.std.proofs.lemmas.Option.{same_Some}
-use Rattle.spmd_tree.specs.declared.tree.Statement.{Statement}
-use Rattle.spmd_tree.specs.declared.tree.Statement.TheVariants as statement
+use Rattle.spmd_tree.specs.declared.tree.SpmdStatement.{SpmdStatement}
+use Rattle.spmd_tree.specs.declared.tree.SpmdStatement.TheVariants as statement
 use Rattle.spmd_text.specs.declared.calls.Form.{Form}
 use Rattle.spmd_text.specs.declared.fault.ParseReason.{ParseReason}
 use Rattle.spmd_text.specs.declared.fault.ParseReason.TheVariants.{Memory}
@@ -29,47 +29,47 @@ use Rattle.spmd_text.proofs.Starts.{form_of_word}
 
 -- ---- lists
 
-pub all_strict : (xs : List Statement) → behind_all xs None ≡ None
+pub all_strict : (xs : List SpmdStatement) → behind_all xs None ≡ None
 all_strict [] = refl
 all_strict (s ∷ ss) = ap (behind_all ss) (statement_strict s) ∙ all_strict ss
 
-pub behind_append : (xs ys : List Statement) (z : Rest) → behind_all (xs ++ ys) z ≡ behind_all ys (behind_all xs z)
+pub behind_append : (xs ys : List SpmdStatement) (z : Rest) → behind_all (xs ++ ys) z ≡ behind_all ys (behind_all xs z)
 behind_append [] ys z = refl
 behind_append (s ∷ ss) ys z = behind_append ss ys (after_statement s z)
 
-pub may_append : (scope : Scope) (depth : ℕ) (xs ys : List Statement) → MayAll scope depth xs → MayAll scope depth ys → MayAll scope depth (xs ++ ys)
+pub may_append : (scope : Scope) (depth : ℕ) (xs ys : List SpmdStatement) → MayAll scope depth xs → MayAll scope depth ys → MayAll scope depth (xs ++ ys)
 may_append scope depth [] ys m n = n
 may_append scope depth (s ∷ ss) ys m n = (m.0, may_append scope depth ss ys m.1 n)
 
-pub may_parts : (scope : Scope) (depth : ℕ) (xs ys : List Statement) → MayAll scope depth (xs ++ ys) → MayAll scope depth xs × MayAll scope depth ys
+pub may_parts : (scope : Scope) (depth : ℕ) (xs ys : List SpmdStatement) → MayAll scope depth (xs ++ ys) → MayAll scope depth xs × MayAll scope depth ys
 may_parts scope depth [] ys m = (tt, m)
 may_parts scope depth (s ∷ ss) ys m = let n = may_parts scope depth ss ys m.1 in ((m.0, n.0), n.1)
 
-append_assoc : (xs ys zs : List Statement) → (xs ++ ys) ++ zs ≡ xs ++ (ys ++ zs)
+append_assoc : (xs ys zs : List SpmdStatement) → (xs ++ ys) ++ zs ≡ xs ++ (ys ++ zs)
 append_assoc [] ys zs = refl
-append_assoc (x ∷ xs) ys zs = ap (λ (l : List Statement). x ∷ l) (append_assoc xs ys zs)
+append_assoc (x ∷ xs) ys zs = ap (λ (l : List SpmdStatement). x ∷ l) (append_assoc xs ys zs)
 
-append_nothing : (xs : List Statement) → xs ++ [] ≡ xs
+append_nothing : (xs : List SpmdStatement) → xs ++ [] ≡ xs
 append_nothing [] = refl
-append_nothing (x ∷ xs) = ap (λ (l : List Statement). x ∷ l) (append_nothing xs)
+append_nothing (x ∷ xs) = ap (λ (l : List SpmdStatement). x ∷ l) (append_nothing xs)
 
-pub flat_append : (xs ys : List Statement) → flat_all (xs ++ ys) ≡ flat_all xs ++ flat_all ys
+pub flat_append : (xs ys : List SpmdStatement) → flat_all (xs ++ ys) ≡ flat_all xs ++ flat_all ys
 flat_append [] ys = refl
-flat_append (x ∷ xs) ys = ap (λ (l : List Statement). flat x ++ l) (flat_append xs ys) ∙ sym (append_assoc (flat x) (flat_all xs) (flat_all ys))
+flat_append (x ∷ xs) ys = ap (λ (l : List SpmdStatement). flat x ++ l) (flat_append xs ys) ∙ sym (append_assoc (flat x) (flat_all xs) (flat_all ys))
 
-pub one_flat : (s : Statement) → is_one s ≡ true → flat s ≡ s ∷ []
+pub one_flat : (s : SpmdStatement) → is_one s ≡ true → flat s ≡ s ∷ []
 one_flat statement.Nothing one = absurd (let never : false ≡ true = one in cc)
 one_flat (statement.Sequence' p a q b) one = absurd (let never : false ≡ true = one in cc)
 one_flat s one = refl
 
 -- ---- the list of a tree
 
-single_of : (scope : Scope) (depth : ℕ) (s : Statement) (z : Rest) (rest : List Token) → is_one s ≡ true → is_branch s ≡ false → Obeys scope depth s → after_statement s z ≡ Some rest
+single_of : (scope : Scope) (depth : ℕ) (s : SpmdStatement) (z : Rest) (rest : List Token) → is_one s ≡ true → is_branch s ≡ false → Obeys scope depth s → after_statement s z ≡ Some rest
     → MayAll scope depth (flat s) × (behind_all (flat s) z ≡ Some rest)
 single_of scope depth s z rest one plain obeys e =
-    subst (λ (xs : List Statement). MayAll scope depth xs × (behind_all xs z ≡ Some rest)) (sym (one_flat s one)) ((record { one = one; plain = plain; obeys = obeys }, tt), e)
+    subst (λ (xs : List SpmdStatement). MayAll scope depth xs × (behind_all xs z ≡ Some rest)) (sym (one_flat s one)) ((record { one = one; plain = plain; obeys = obeys }, tt), e)
 
-pub flat_of : (scope : Scope) (depth : ℕ) (s : Statement) (z : Rest) (rest : List Token) → is_branch s ≡ false → Obeys scope depth s → after_statement s z ≡ Some rest
+pub flat_of : (scope : Scope) (depth : ℕ) (s : SpmdStatement) (z : Rest) (rest : List Token) → is_branch s ≡ false → Obeys scope depth s → after_statement s z ≡ Some rest
     → MayAll scope depth (flat s) × (behind_all (flat s) z ≡ Some rest)
 flat_of scope depth statement.Nothing z rest plain obeys e = (tt, e)
 flat_of scope depth (statement.Sequence' p a q b) z rest plain obeys e =
@@ -90,7 +90,7 @@ flat_of scope depth (statement.WaitAll line requests) z rest plain obeys e = sin
 flat_of scope depth (statement.Unreached line) z rest plain obeys e = single_of scope depth (statement.Unreached line) z rest refl plain obeys e
 
 -- the tree says what the list says
-pub of_flat : (scope : Scope) (depth : ℕ) (s : Statement) → MayAll scope depth (flat s)
+pub of_flat : (scope : Scope) (depth : ℕ) (s : SpmdStatement) → MayAll scope depth (flat s)
     → MayStatements scope depth s × ((z : Rest) (rest : List Token) → behind_all (flat s) z ≡ Some rest → after_statement s z ≡ Some rest)
 of_flat scope depth statement.Nothing m = (record { plain = refl; obeys = tt }, λ z rest e. e)
 of_flat scope depth (statement.Sequence' p a q b) m =
@@ -133,10 +133,10 @@ first_ends word.Elif rest first = absurd (let never : false ≡ true = first in 
 first_ends word.Else rest first = absurd (let never : false ≡ true = first in cc)
 first_ends w rest first = refl
 
-first_of : (s : Statement) (w : Word) → first_word s ≡ w → is_first w ≡ true → is_first (first_word s) ≡ true
+first_of : (s : SpmdStatement) (w : Word) → first_word s ≡ w → is_first w ≡ true → is_first (first_word s) ≡ true
 first_of s w e first = ap is_first e ∙ first
 
-pub first_plain : (s : Statement) → is_first (first_word s) ≡ true → is_branch s ≡ false
+pub first_plain : (s : SpmdStatement) → is_first (first_word s) ≡ true → is_branch s ≡ false
 first_plain (statement.When' line true c p a q b) first = absurd (let never : false ≡ true = first in cc)
 first_plain (statement.Otherwise' p a) first = absurd (let never : false ≡ true = first in cc)
 first_plain (statement.When' line false c p a q b) first = refl
@@ -148,7 +148,7 @@ call_begins word.Else f e = absurd (let never : None ≡ Some f = e in cc)
 call_begins word.Elif f e = absurd (let never : None ≡ Some f = e in cc)
 call_begins v f e = refl
 
-pub plain_first : (s : Statement) → is_one s ≡ true → is_branch s ≡ false → keyword_of (piece.Word (first_word s)) ≡ Some (first_word s)
+pub plain_first : (s : SpmdStatement) → is_one s ≡ true → is_branch s ≡ false → keyword_of (piece.Word (first_word s)) ≡ Some (first_word s)
 plain_first statement.Nothing one plain = absurd (let never : false ≡ true = one in cc)
 plain_first (statement.Sequence' p a q b) one plain = absurd (let never : false ≡ true = one in cc)
 plain_first (statement.Parameter line name v) one plain = absurd (let never : false ≡ true = one in cc)
@@ -202,7 +202,7 @@ row_begun old depth = record {
   may = λ sound. tt;
 }
 
-pub row_more : {old s mid new : Parser} {depth : ℕ} {list longer : List Statement} (w : Word) (item : Statement) → RowSoFar old s depth list → keyword_of (next s) ≡ Some w
+pub row_more : {old s mid new : Parser} {depth : ℕ} {list longer : List SpmdStatement} (w : Word) (item : SpmdStatement) → RowSoFar old s depth list → keyword_of (next s) ≡ Some w
     → HasRead (one_part (scope_of s) depth w) s mid item → MakesOrLacksMemory mid new (longer ≡ list ++ item ∷ []) → RowSoFar old new depth longer
 row_more {old} {s} {mid} {new} {depth} {list} {longer} w item so_far is reads makes = record {
   goes = keeps_on so_far.goes (keeps_on r.goes (made_goes makes));
@@ -217,13 +217,13 @@ row_more {old} {s} {mid} {new} {depth} {list} {longer} w item so_far is reads ma
     known : (next s ≡ piece.Word w) × (is_first w ≡ true)
     known = word_of_is (next s) w is
 
-    by_found : (rest between : List Token) (xs : List Statement) → behind_all xs (Some between) ≡ Some rest → MayAll (scope_of old) depth xs → Finds new between (Unit {0})
+    by_found : (rest between : List Token) (xs : List SpmdStatement) → behind_all xs (Some between) ≡ Some rest → MayAll (scope_of old) depth xs → Finds new between (Unit {0})
         → (new.fault ≡ Some Memory) ⊎ Left new (scope_of old) depth rest
     by_found rest between xs e may (inl memory) = inl memory
     by_found rest between xs e may (inr (there, any)) =
         inr (record { sound = there.sound; row = xs; spelled = ap (λ (z : List Token). behind_all xs (Some z)) there.left ∙ e; may = may })
 
-    by_row : (rest : List Token) → ends_statements rest ≡ true → s.fault ≡ None → (row : List Statement) → behind_all row (Some s.rest.now) ≡ Some rest → MayAll (scope_of old) depth row
+    by_row : (rest : List Token) → ends_statements rest ≡ true → s.fault ≡ None → (row : List SpmdStatement) → behind_all row (Some s.rest.now) ≡ Some rest → MayAll (scope_of old) depth row
         → (new.fault ≡ Some Memory) ⊎ Left new (scope_of old) depth rest
     by_row rest ends sound [] e may =
         let at = ap ends_statements (same_Some s.rest.now rest e) ∙ ends in
@@ -241,14 +241,14 @@ row_more {old} {s} {mid} {new} {depth} {list} {longer} w item so_far is reads ma
 
     longer_is : longer ≡ list ++ item ∷ [] → is_one item ≡ true → flat_all longer ≡ flat_all list ++ item ∷ []
     longer_is f one =
-        ap flat_all f ∙ (flat_append list (item ∷ []) ∙ ap (λ (xs : List Statement). flat_all list ++ xs) (append_nothing (flat item) ∙ one_flat item one))
+        ap flat_all f ∙ (flat_append list (item ∷ []) ∙ ap (λ (xs : List SpmdStatement). flat_all list ++ xs) (append_nothing (flat item) ∙ one_flat item one))
 
     stands : new.fault ≡ None → behind_all (flat_all longer) (Some old.rest.now) ≡ Some new.rest.now
     stands sound =
         let m = made_sound makes sound in
         let mid_sound = sound_before (made_goes makes) sound in
         let s_sound = sound_before r.goes mid_sound in
-        ap (λ (xs : List Statement). behind_all xs (Some old.rest.now)) (longer_is m.1 (r.may mid_sound).one)
+        ap (λ (xs : List SpmdStatement). behind_all xs (Some old.rest.now)) (longer_is m.1 (r.may mid_sound).one)
         ∙ (behind_append (flat_all list) (item ∷ []) (Some old.rest.now)
         ∙ (ap (after_statement item) (so_far.stands s_sound) ∙ (r.stands mid_sound ∙ ap (λ (p : Parser). Some p.rest.now) (sym m.0))))
 
@@ -261,7 +261,7 @@ row_more {old} {s} {mid} {new} {depth} {list} {longer} w item so_far is reads ma
         (may_append (scope_of old) depth (flat_all list) (item ∷ []) (so_far.may (sound_before r.goes mid_sound))
         (record { one = b.one; plain = first_plain item (first_of item w b.begins known.1); obeys = b.obeys }, tt))
 
-pub row_ended : {old s mid new : Parser} {depth : ℕ} {list : List Statement} (made : Statement) → RowSoFar old s depth list → keyword_of (next s) ≡ None
+pub row_ended : {old s mid new : Parser} {depth : ℕ} {list : List SpmdStatement} (made : SpmdStatement) → RowSoFar old s depth list → keyword_of (next s) ≡ None
     → Keeps s mid → (mid.fault ≡ None → (mid ≡ s) × (is_end (next s) ≡ true)) → (is_end (next s) ≡ true → mid ≡ s)
     → MakesOrLacksMemory mid new (flat made ≡ flat_all list) → HasRead (statements_part (scope_of old) depth) old new made
 row_ended {old} {s} {mid} {new} {depth} {list} made so_far none goes sound_is fits makes = record {
@@ -273,7 +273,7 @@ row_ended {old} {s} {mid} {new} {depth} {list} made so_far none goes sound_is fi
   may = λ sound. (whole sound).0;
 }
   where
-    by_row : (rest : List Token) → ends_statements rest ≡ true → s.fault ≡ None → (row : List Statement) → behind_all row (Some s.rest.now) ≡ Some rest → MayAll (scope_of old) depth row
+    by_row : (rest : List Token) → ends_statements rest ≡ true → s.fault ≡ None → (row : List SpmdStatement) → behind_all row (Some s.rest.now) ≡ Some rest → MayAll (scope_of old) depth row
         → Finds new rest (Unit {0})
     by_row rest ends sound [] e may =
         let same = same_Some s.rest.now rest e in
@@ -305,5 +305,5 @@ row_ended {old} {s} {mid} {new} {depth} {list} made so_far none goes sound_is fi
         let mid_sound = sound_before (made_goes makes) sound in
         let same = (sound_is mid_sound).0 in
         (whole sound).1 (Some old.rest.now) new.rest.now
-        (ap (λ (xs : List Statement). behind_all xs (Some old.rest.now)) m.1
+        (ap (λ (xs : List SpmdStatement). behind_all xs (Some old.rest.now)) m.1
         ∙ (so_far.stands (sound_before goes mid_sound) ∙ (ap (λ (p : Parser). Some p.rest.now) (sym same) ∙ ap (λ (p : Parser). Some p.rest.now) (sym m.0))))

@@ -4,8 +4,8 @@ use Rattle.std.proofs.Common.{◌≡◌, ℕ, ◌<◌, length, arith, pos, Bool,
 use Rattle.std.proofs.lemmas.Option.{same_Some}
 use Rattle.spmd_tree.specs.declared.tree.Expression.{Expression}
 use Rattle.spmd_text.specs.declared.fault.ParseReason.{ParseReason}
-use Rattle.spmd_text.specs.declared.reading.Policy.{Policy}
-use Rattle.spmd_text.specs.declared.reading.Policy.TheVariants as policy
+use Rattle.spmd_text.specs.declared.reading.SpmdPolicy.{SpmdPolicy}
+use Rattle.spmd_text.specs.declared.reading.SpmdPolicy.TheVariants as policy
 use Rattle.spmd_text.specs.declared.parser.Parser.{Parser}
 use Rattle.spmd_text.specs.declared.piece.Word.{Word}
 use Rattle.spmd_text.specs.declared.piece.Word.TheVariants as word
@@ -96,18 +96,18 @@ gap_as old step there = record {
 pub no_policy : {old new : Parser} → new ≡ old → nat_eq (code (next_of old.fault old.rest.now)) (code (piece.Word word.Policy)) ≡ false → HasRead policy_line_part old new policy.Any
 no_policy {old} {new} same e = left_out (λ x. tt) same none stands tt
   where
-    out : old.fault ≡ None → (p : Policy) → after_policy p (Some old.rest.now) ≡ only (is_any p) (Some old.rest.now)
+    out : old.fault ≡ None → (p : SpmdPolicy) → after_policy p (Some old.rest.now) ≡ only (is_any p) (Some old.rest.now)
     out sound p =
         not_chosen (piece_begins (piece.Word word.Policy) (Some old.rest.now)) (after_piece piece.LineEnd (after_piece (piece.Word (word_of_policy p)) (after_piece (piece.Word word.Policy) (Some old.rest.now))))
         (only (is_any p) (Some old.rest.now)) (not_next word.Policy old.fault old.rest.now e sound)
 
-    none : old.fault ≡ None → (p : Policy) (rest : List Token) → after_policy p (Some old.rest.now) ≡ Some rest → old.rest.now ≡ rest
+    none : old.fault ≡ None → (p : SpmdPolicy) (rest : List Token) → after_policy p (Some old.rest.now) ≡ Some rest → old.rest.now ≡ rest
     none sound p rest f = same_Some old.rest.now rest (only_left (is_any p) (Some old.rest.now) rest (sym (out sound p) ∙ f)).1
 
     stands : old.fault ≡ None → after_policy policy.Any (Some old.rest.now) ≡ Some old.rest.now
     stands sound = out sound policy.Any
 
-pub policy_as : (old : Parser) (p : Policy) → (old.fault ≡ None → piece_begins (piece.Word word.Policy) (Some old.rest.now) ≡ true)
+pub policy_as : (old : Parser) (p : SpmdPolicy) → (old.fault ≡ None → piece_begins (piece.Word word.Policy) (Some old.rest.now) ≡ true)
     → IsAs (then_part (then_part (piece_part (piece.Word word.Policy)) policy_part) (piece_part piece.LineEnd)) policy_line_part old ((tt {0}, p), tt {0}) p
 policy_as old p there = record {
   back = λ w rest sound may e ends. (((tt, w), tt), ((tt, tt), tt), sym (written (there sound) w) ∙ e, refl, λ same. tt);
@@ -115,7 +115,7 @@ policy_as old p there = record {
   may = λ m. tt;
 }
   where
-    written : piece_begins (piece.Word word.Policy) (Some old.rest.now) ≡ true → (q : Policy)
+    written : piece_begins (piece.Word word.Policy) (Some old.rest.now) ≡ true → (q : SpmdPolicy)
         → after_policy q (Some old.rest.now) ≡ after_piece piece.LineEnd (after_piece (piece.Word (word_of_policy q)) (after_piece (piece.Word word.Policy) (Some old.rest.now)))
     written is q =
         chosen (piece_begins (piece.Word word.Policy) (Some old.rest.now)) (after_piece piece.LineEnd (after_piece (piece.Word (word_of_policy q)) (after_piece (piece.Word word.Policy) (Some old.rest.now))))
@@ -134,7 +134,7 @@ gap_strict n = only_none (same_number (pos n) (pos 1))
     only_none true = refl
     only_none false = refl
 
-pub policy_line_strict : (p : Policy) → after_policy p None ≡ None
+pub policy_line_strict : (p : SpmdPolicy) → after_policy p None ≡ None
 policy_line_strict policy.Any = refl
 policy_line_strict policy.Never = refl
 policy_line_strict policy.Always = refl
@@ -146,7 +146,7 @@ heading_line_as old = record {
   may = λ m. tt;
 }
 
-pub heading_as : (old : Parser) (p : Policy) → IsAs (then_part heading_line_part policy_line_part) heading_part old (tt {0}, p) p
+pub heading_as : (old : Parser) (p : SpmdPolicy) → IsAs (then_part heading_line_part policy_line_part) heading_part old (tt {0}, p) p
 heading_as old p = record {
   back = λ w rest sound may e ends. ((tt, w), (tt, tt), e, refl, λ same. tt);
   stands = λ rest e may. e;

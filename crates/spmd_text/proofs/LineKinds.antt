@@ -1,8 +1,8 @@
 -- A line tells by its first piece of which kind it is.
 use Rattle.std.proofs.Common.{◌≡◌, ◌⊎◌, ℕ, pos, true, false, not, nat_eq, List, [], ◌∷◌, ◌++◌, Some, None, refl, ap, sym, subst, ◌∙◌, inl, inr}
 use Rattle.std.proofs.lemmas.List.{append_assoc, append-nil}
-use Rattle.spmd_tree.specs.declared.tree.Statement.{Statement}
-use Rattle.spmd_tree.specs.declared.tree.Statement.TheVariants as statement
+use Rattle.spmd_tree.specs.declared.tree.SpmdStatement.{SpmdStatement}
+use Rattle.spmd_tree.specs.declared.tree.SpmdStatement.TheVariants as statement
 use Rattle.spmd_text.specs.declared.calls.Form.{Form}
 use Rattle.spmd_text.specs.declared.piece.Word.{Word}
 use Rattle.spmd_text.specs.declared.piece.Word.TheVariants as word
@@ -84,7 +84,7 @@ call_simple word.Else f e = absurd (let never : None ≡ Some f = e in cc)
 call_simple word.End f e = absurd (let never : None ≡ Some f = e in cc)
 call_simple v f e = refl
 
-pub simple_kind : (s : Statement) → is_one s ≡ true → is_simple (first_word s) ≡ true → kind_of (piece.Word (first_word s)) ≡ simple
+pub simple_kind : (s : SpmdStatement) → is_one s ≡ true → is_simple (first_word s) ≡ true → kind_of (piece.Word (first_word s)) ≡ simple
 simple_kind statement.Nothing one is = absurd (let never : false ≡ true = one in cc)
 simple_kind (statement.Sequence' p a q b) one is = absurd (let never : false ≡ true = one in cc)
 simple_kind (statement.Parameter line name v) one is = absurd (let never : false ≡ true = one in cc)

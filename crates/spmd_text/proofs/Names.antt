@@ -10,8 +10,8 @@ use Rattle.spmd_tree.specs.declared.tree.Labels.{Labels}
 use Rattle.spmd_tree.specs.declared.tree.Labels.TheVariants.{Last, More'}
 use Rattle.spmd_tree.specs.declared.tree.Arguments.{Arguments}
 use Rattle.spmd_tree.specs.declared.tree.Arguments.TheVariants as call
-use Rattle.spmd_tree.specs.declared.tree.Statement.{Statement}
-use Rattle.spmd_tree.specs.declared.tree.Statement.TheVariants as statement
+use Rattle.spmd_tree.specs.declared.tree.SpmdStatement.{SpmdStatement}
+use Rattle.spmd_tree.specs.declared.tree.SpmdStatement.TheVariants as statement
 use Rattle.spmd_text.specs.Labels.{all_fit, call_fits, has_index, is_label, label_fits, labels_fit, name_fits, request_fits}
 use Rattle.spmd_text.specs.Spelling.{are_parameters, has_none, is_ordered}
 use Rattle.spmd_text.specs.Rules.{IfThere, MayCall, MayLabel, MayLabels}
@@ -66,7 +66,7 @@ may_call flag xs ys same (call.Collective k root g c) m = m
 abbrev pub with_names : Bool → List ℕ → List ℕ → List (Vec ℕ) → Scope
 with_names flag parameters loops names = record { in_parameter = flag; names = names; parameters = parameters; loops = loops }
 
-obeys_same : (flag : Bool) (parameters loops : List ℕ) (xs ys : List (Vec ℕ)) → spelled_names xs ≡ spelled_names ys → (depth : ℕ) (s : Statement)
+obeys_same : (flag : Bool) (parameters loops : List ℕ) (xs ys : List (Vec ℕ)) → spelled_names xs ≡ spelled_names ys → (depth : ℕ) (s : SpmdStatement)
     → Obeys (with_names flag parameters loops xs) depth s → Obeys (with_names flag parameters loops ys) depth s
 obeys_same flag parameters loops xs ys same depth statement.Nothing o = tt
 obeys_same flag parameters loops xs ys same depth (statement.Sequence' p a q b) o =
@@ -82,7 +82,7 @@ obeys_same flag parameters loops xs ys same depth (statement.Call line c) o = ma
 obeys_same flag parameters loops xs ys same depth (statement.WaitAll line requests) o = (may_labels flag xs ys same requests o.0, o.1)
 obeys_same flag parameters loops xs ys same depth (statement.Unreached line) o = tt
 
-pub text_same : (xs ys : List (Vec ℕ)) → spelled_names xs ≡ spelled_names ys → (s : Statement) → ObeysText xs s → ObeysText ys s
+pub text_same : (xs ys : List (Vec ℕ)) → spelled_names xs ≡ spelled_names ys → (s : SpmdStatement) → ObeysText xs s → ObeysText ys s
 text_same xs ys same (statement.Sequence' p a q b) o = (o.0, obeys_same false (parameters_of a) [] xs ys same 32 b o.1)
 text_same xs ys same s o = absurd o
 
@@ -106,7 +106,7 @@ call_so flag names (call.Wait request) m = m.fits
 call_so flag names (call.SendReceive d t s u c) m = refl
 call_so flag names (call.Collective k root g c) m = refl
 
-all_so : (flag : Bool) (parameters loops : List ℕ) (names : List (Vec ℕ)) (depth : ℕ) (s : Statement) → Obeys (with_names flag parameters loops names) depth s → all_fit names s ≡ true
+all_so : (flag : Bool) (parameters loops : List ℕ) (names : List (Vec ℕ)) (depth : ℕ) (s : SpmdStatement) → Obeys (with_names flag parameters loops names) depth s → all_fit names s ≡ true
 all_so flag parameters loops names depth statement.Nothing o = refl
 all_so flag parameters loops names depth (statement.Sequence' p a q b) o =
     both_true (all_fit names a) (all_fit names b) (all_so flag parameters loops names depth a o.0) (all_so flag parameters loops names depth b o.1)
@@ -120,21 +120,21 @@ all_so flag parameters loops names depth (statement.Call line c) o = call_so fla
 all_so flag parameters loops names depth (statement.WaitAll line requests) o = labels_so flag names requests o.0
 all_so flag parameters loops names depth (statement.Unreached line) o = refl
 
-heads_so : (before : List ℕ) (names : List (Vec ℕ)) (s : Statement) → ObeyParameters before s → all_fit names s ≡ true
+heads_so : (before : List ℕ) (names : List (Vec ℕ)) (s : SpmdStatement) → ObeyParameters before s → all_fit names s ≡ true
 heads_so before names statement.Nothing o = refl
 heads_so before names (statement.Sequence' p a q b) o =
     both_true (all_fit names a) (all_fit names b) (heads_so before names a o.0) (heads_so (before ++ parameters_of a) names b o.1)
 heads_so before names (statement.Parameter line name e) o = refl
 heads_so before names s o = absurd o
 
-pub text_fits : (names : List (Vec ℕ)) (s : Statement) → ObeysText names s → all_fit names s ≡ true
+pub text_fits : (names : List (Vec ℕ)) (s : SpmdStatement) → ObeysText names s → all_fit names s ≡ true
 text_fits names (statement.Sequence' p a q b) o =
     both_true (all_fit names a) (all_fit names b) (heads_so [] names a o.0) (all_so false (parameters_of a) [] names 32 b o.1)
 text_fits names s o = absurd o
 
 -- ---- parameters first
 
-none_so : (scope : Scope) (depth : ℕ) (s : Statement) → Obeys scope depth s → has_none s ≡ true
+none_so : (scope : Scope) (depth : ℕ) (s : SpmdStatement) → Obeys scope depth s → has_none s ≡ true
 none_so scope depth (statement.Sequence' p a q b) o = both_true (has_none a) (has_none b) (none_so scope depth a o.0) (none_so scope depth b o.1)
 none_so scope depth (statement.Parameter line name e) o = absurd o
 none_so scope depth (statement.When' line chained c p a q b) o = both_true (has_none a) (has_none b) (none_so scope (depth - 1) a o.2) (none_so scope (depth - 1) b o.3)
@@ -142,14 +142,14 @@ none_so scope depth (statement.Otherwise' p a) o = none_so scope depth a o
 none_so scope depth (statement.Repeat' line name first last step p a) o = none_so (within_loop name scope) (depth - 1) a o.5
 none_so scope depth s o = refl
 
-parameters_so : (names : List ℕ) (s : Statement) → ObeyParameters names s → are_parameters s ≡ true
+parameters_so : (names : List ℕ) (s : SpmdStatement) → ObeyParameters names s → are_parameters s ≡ true
 parameters_so names statement.Nothing o = refl
 parameters_so names (statement.Sequence' p a q b) o =
     both_true (are_parameters a) (are_parameters b) (parameters_so names a o.0) (parameters_so (names ++ parameters_of a) b o.1)
 parameters_so names (statement.Parameter line name e) o = refl
 parameters_so names s o = absurd o
 
-pub text_ordered : (names : List (Vec ℕ)) (s : Statement) → ObeysText names s → is_ordered s ≡ true
+pub text_ordered : (names : List (Vec ℕ)) (s : SpmdStatement) → ObeysText names s → is_ordered s ≡ true
 text_ordered names (statement.Sequence' p a q b) o =
     both_true (are_parameters a) (has_none b) (parameters_so [] a o.0) (none_so (behind_parameters names a) 32 b o.1)
 text_ordered names s o = absurd o

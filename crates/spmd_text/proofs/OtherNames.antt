@@ -9,8 +9,8 @@ use Rattle.spmd_tree.specs.declared.tree.Labels.{Labels}
 use Rattle.spmd_tree.specs.declared.tree.Labels.TheVariants.{Last, More'}
 use Rattle.spmd_tree.specs.declared.tree.Arguments.{Arguments}
 use Rattle.spmd_tree.specs.declared.tree.Arguments.TheVariants as call
-use Rattle.spmd_tree.specs.declared.tree.Statement.{Statement}
-use Rattle.spmd_tree.specs.declared.tree.Statement.TheVariants as statement
+use Rattle.spmd_tree.specs.declared.tree.SpmdStatement.{SpmdStatement}
+use Rattle.spmd_tree.specs.declared.tree.SpmdStatement.TheVariants as statement
 use Rattle.spmd_text.specs.declared.piece.Piece.{Piece}
 use Rattle.spmd_text.specs.declared.piece.Piece.TheVariants as piece
 use Rattle.spmd_text.specs.declared.piece.Word.TheVariants as word
@@ -116,7 +116,7 @@ may_call flag names others (call.Collective k root g c) here rest e h may = may
 abbrev scope_renamed : List (Vec ℕ) → Scope → Scope
 scope_renamed others scope = record { in_parameter = scope.in_parameter; names = others; parameters = scope.parameters; loops = scope.loops }
 
-simple_obeys : (others : List (Vec ℕ)) (scope : Scope) (depth : ℕ) (s : Statement) (line rest : List Token) → is_one s ≡ true → is_simple (first_word s) ≡ true
+simple_obeys : (others : List (Vec ℕ)) (scope : Scope) (depth : ℕ) (s : SpmdStatement) (line rest : List Token) → is_one s ≡ true → is_simple (first_word s) ≡ true
     → after_statement s (Some line) ≡ Some rest → AreAlike scope.names others line → Obeys scope depth s → Obeys (scope_renamed others scope) depth s
 simple_obeys others scope depth statement.Nothing line rest one simple e h o = absurd (false≢true one)
 simple_obeys others scope depth (statement.Sequence' p a q b) line rest one simple e h o = absurd (false≢true one)

@@ -2,8 +2,8 @@
 use Rattle.std.proofs.Common.{◌≡◌, ℕ, true, false, not, ◌&&◌, List, [], ◌∷◌, Option, Some, None, refl, ap, sym, ◌∙◌, inl, inr}
 use Rattle.std.proofs.lemmas.Option.{same_Some}
 use Rattle.spmd_tree.specs.declared.tree.Expression.{Expression}
-use Rattle.spmd_tree.specs.declared.tree.Statement.{Statement}
-use Rattle.spmd_tree.specs.declared.tree.Statement.TheVariants as statement
+use Rattle.spmd_tree.specs.declared.tree.SpmdStatement.{SpmdStatement}
+use Rattle.spmd_tree.specs.declared.tree.SpmdStatement.TheVariants as statement
 use Rattle.spmd_text.specs.declared.parser.Parser.{Parser}
 use Rattle.spmd_text.specs.declared.piece.Word.TheVariants as word
 use Rattle.spmd_text.specs.declared.piece.Piece.TheVariants as piece
@@ -96,7 +96,7 @@ parameter_as old names line name e = record {
   may = λ m. record { one = refl; obeys = (m.0.0.1, m.0.1) };
 }
   where
-    back : (w : Statement) (rest : List Token) → is_parameter w ≡ true → ObeyParameters names w → after_statement w (put_back line word.Param (Some old.rest.now)) ≡ Some rest
+    back : (w : SpmdStatement) (rest : List Token) → is_parameter w ≡ true → ObeyParameters names w → after_statement w (put_back line word.Param (Some old.rest.now)) ≡ Some rest
         → (x : (ℕ × Option Expression) × Unit {0}) × SyntaxPart.May (parameter_parts names) x × (behind_param x.0.0 x.0.1 (Some old.rest.now) ≡ Some rest) × (true ≡ true)
         × (SyntaxPart.Same (parameter_parts names) ((name, e), tt) x → name ∷ [] ≡ parameters_of w)
     back (statement.Parameter l k v) rest one obeys f = (
@@ -129,7 +129,7 @@ parameter_read {old} {named} {kept} {valued} {new} line name e first adds second
     whole = meets_then (λ y. refl) (λ y here rest may f ends. line_end_value here rest f) value third.goes.sticks (meets_of third)
 
 -- The same, where it is kept.
-pub parameter_kept : {old mid new : Parser} {line : ℕ} {a b : Statement} → ReadsParameter old mid line a → MakesOrLacksMemory mid new (b ≡ a) → ReadsParameter old new line b
+pub parameter_kept : {old mid new : Parser} {line : ℕ} {a b : SpmdStatement} → ReadsParameter old mid line a → MakesOrLacksMemory mid new (b ≡ a) → ReadsParameter old new line b
 parameter_kept {old} {mid} {new} {line} {a} {b} r makes = record {
   goes = renamed (grown_then_kept r.goes (made_goes makes)) (λ sound. ap parameters_of (sym (made_sound makes sound).1));
   meets = meets_kept r.meets makes;

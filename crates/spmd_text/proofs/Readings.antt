@@ -2,7 +2,7 @@
 use Rattle.std.proofs.Common.{◌≡◌, ℕ, ◌≤◌, length, Bool, true, false, List, [], ◌∷◌, Option, Some, None, IfSome, Result, Ok, if◌then◌else◌, refl, ap, sym, subst, ◌∙◌, inl, inr}
 use Rattle.std.specs.Global.{Vec}
 use Rattle.std.proofs.lemmas.Option.{same_Some}
-use Rattle.spmd_tree.specs.declared.tree.Statement.{Statement}
+use Rattle.spmd_tree.specs.declared.tree.SpmdStatement.{SpmdStatement}
 use Rattle.spmd_text.specs.declared.fault.ParseFault.{ParseFault}
 use Rattle.spmd_text.specs.declared.fault.ParseReason.{ParseReason}
 use Rattle.spmd_text.specs.declared.fault.ParseReason.TheVariants.{Memory}
@@ -11,8 +11,8 @@ use Rattle.spmd_text.specs.declared.parser.Parser.{Parser}
 use Rattle.spmd_text.specs.declared.piece.Piece.TheVariants as piece
 use Rattle.spmd_text.specs.declared.piece.Pieces.{Pieces}
 use Rattle.spmd_text.specs.declared.piece.Token.{Token}
-use Rattle.spmd_text.specs.declared.reading.Policy.{Policy}
-use Rattle.spmd_text.specs.declared.reading.Text.{Text}
+use Rattle.spmd_text.specs.declared.reading.SpmdPolicy.{SpmdPolicy}
+use Rattle.spmd_text.specs.declared.reading.SpmdText.{SpmdText}
 use Rattle.spmd_text.specs.parts.Tokens.{ArePieces}
 use Rattle.spmd_text.specs.Tokens.{Cutting, pieces_of}
 use Rattle.spmd_text.specs.parts.Reading.{Finds}
@@ -44,7 +44,7 @@ end_left (t ∷ ts) e =
 
 -- ---- what the reader found
 
-pub read_said : {old new : Parser} {x : Policy × Statement} (pieces : Pieces) → Meets (text_part old.names.now) old new x → old.rest.now ≡ pieces.tokens.items → old.names.now ≡ pieces.names.items
+pub read_said : {old new : Parser} {x : SpmdPolicy × SpmdStatement} (pieces : Pieces) → Meets (text_part old.names.now) old new x → old.rest.now ≡ pieces.tokens.items → old.names.now ≡ pieces.names.items
     → new.fault ≡ None → is_all_read new.rest.now ≡ true → SaysProgram pieces.names.items pieces.tokens.items x.0 x.1
 read_said {old} {new} {x} pieces meets tokens names sound ends = record {
   spelled =
@@ -62,7 +62,7 @@ memory_told why e other =
 some_never : (why : ParseReason) → Some why ≡ None → ⊥
 some_never why e = cc
 
-pub read_told : {old new : Parser} {x : Policy × Statement} (pieces : Pieces) → Meets (text_part old.names.now) old new x → old.rest.now ≡ pieces.tokens.items → old.names.now ≡ pieces.names.items
+pub read_told : {old new : Parser} {x : SpmdPolicy × SpmdStatement} (pieces : Pieces) → Meets (text_part old.names.now) old new x → old.rest.now ≡ pieces.tokens.items → old.names.now ≡ pieces.names.items
     → old.fault ≡ None → (o : Option ParseFault) → IfSome o (λ fault. new.fault ≡ Some fault.reason)
     → IfSome o (λ fault. is_memory_reason fault.reason ≡ false → AreReadablePieces pieces.names.items pieces.tokens.items → ⊥)
 read_told {old} {new} {x} pieces meets tokens names sound None is_told = tt
@@ -74,8 +74,8 @@ read_told {old} {new} {x} pieces meets tokens names sound (Some fault) is_told =
 
     never : is_memory_reason fault.reason ≡ false → AreReadablePieces pieces.names.items pieces.tokens.items → ⊥
     never other r =
-        let p : Policy = r.policy in
-        let s : Statement = r.program in
+        let p : SpmdPolicy = r.policy in
+        let s : SpmdStatement = r.program in
         let o = only_left (is_ordered s) (after_piece piece.TextEnd (after_statement s (heading_part.behind p (Some old.rest.now)))) []
         (ap (λ (ts : List Token). after_text p s (Some ts)) tokens ∙ r.says.spelled) in
         let rest = left_before (after_piece piece.TextEnd) refl (after_statement s (heading_part.behind p (Some old.rest.now))) [] o.1 in
@@ -84,7 +84,7 @@ read_told {old} {new} {x} pieces meets tokens names sound (Some fault) is_told =
         (end_left rest.0 (ap (after_piece piece.TextEnd) (sym rest.1) ∙ o.1)))
 
 -- the line that is told is the first that is wrong
-pub read_first : {old new : Parser} {x : Policy × Statement} {at : ℕ} (place : Place) (pieces : Pieces) → Meets (text_part old.names.now) old new x → (IsEnded old.rest.now → TellsLine (begin old.names.now ∷ []) old new old.rest.now at)
+pub read_first : {old new : Parser} {x : SpmdPolicy × SpmdStatement} {at : ℕ} (place : Place) (pieces : Pieces) → Meets (text_part old.names.now) old new x → (IsEnded old.rest.now → TellsLine (begin old.names.now ∷ []) old new old.rest.now at)
     → old.rest.now ≡ pieces.tokens.items → old.names.now ≡ pieces.names.items → old.fault ≡ None → (o : Option ParseFault) → IfSome o (λ fault. new.fault ≡ Some fault.reason)
     → IfSome o (λ fault. fault.line ≡ at)
     → IfSome o (λ fault. is_memory_reason fault.reason ≡ false → IsEnded pieces.tokens.items → IsFirstWrongLine pieces.names.items pieces.tokens.items fault.line)
@@ -101,7 +101,7 @@ read_first {old} {new} {x} {at} place pieces meets tells tokens names sound (Som
 
 -- ---- what is told of the bytes
 
-pub text_of : (bytes : List ℕ) (pieces : Pieces) (p : Policy) (s : Statement) (parameters : Vec ℕ) → length bytes ≤ 65536 → ArePieces pieces (pieces_of bytes)
+pub text_of : (bytes : List ℕ) (pieces : Pieces) (p : SpmdPolicy) (s : SpmdStatement) (parameters : Vec ℕ) → length bytes ≤ 65536 → ArePieces pieces (pieces_of bytes)
     → SaysProgram pieces.names.items pieces.tokens.items p s
     → parameters.items ≡ parameters_of s → IsSpmdText (record { policy = p; program = s; names = pieces.names; parameters = parameters }) bytes
 text_of bytes pieces p s parameters small cut says named = record {
@@ -119,7 +119,7 @@ same_state : (a b : Cutting) (whole : Result Cutting ParseFault) → whole ≡ O
 same_state a b whole is also = cc
 
 -- a text is what its pieces say, in names of their own
-text_read : (bytes : List ℕ) (pieces : Pieces) → ArePieces pieces (pieces_of bytes) → (text : Text) → IsSpmdText text bytes → AreReadablePieces pieces.names.items pieces.tokens.items
+text_read : (bytes : List ℕ) (pieces : Pieces) → ArePieces pieces (pieces_of bytes) → (text : SpmdText) → IsSpmdText text bytes → AreReadablePieces pieces.names.items pieces.tokens.items
 text_read bytes pieces cut text is =
     let same = same_state is.state cut.state (pieces_of bytes) is.cut cut.done in
     record {

@@ -4,7 +4,7 @@ use Rattle.std.specs.Prelude.{Result, Ok, Err}
 use Rattle.spmd_text.specs.declared.fault.ParseFault.{ParseFault}
 use Rattle.spmd_text.specs.declared.fault.TextFault.{TextFault}
 use Rattle.spmd_text.specs.declared.fault.TextFault.TheVariants.{Memory, TooLarge, Pieces, Grammar}
-use Rattle.spmd_text.specs.declared.reading.Text.{Text}
+use Rattle.spmd_text.specs.declared.reading.SpmdText.{SpmdText}
 use Rattle.spmd_text.specs.Tokens.{Cutting, pieces_of}
 use Rattle.spmd_text.specs.Texts.{HasTextFault, IsSpmdText, PieceFaultsAreTold}
 
@@ -23,7 +23,7 @@ told_by bytes f le is TooLarge h = absurd (omega (arith, le, h))
 told_by bytes f le is (Pieces g) h = inr (ap Pieces (one_fault f g (pieces_of bytes) is h.1))
 told_by bytes f le is (Grammar g) h = absurd (clash h.1.state f (pieces_of bytes) h.1.cut is)
 
-not_read : (bytes : List ℕ) (f : ParseFault) → pieces_of bytes ≡ Err f → (t : Text) → IsSpmdText t bytes → ⊥
+not_read : (bytes : List ℕ) (f : ParseFault) → pieces_of bytes ≡ Err f → (t : SpmdText) → IsSpmdText t bytes → ⊥
 not_read bytes f is t h = clash h.state f (pieces_of bytes) h.cut is
 
 pub piece_faults_are_told : PieceFaultsAreTold

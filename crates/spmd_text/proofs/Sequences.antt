@@ -2,7 +2,7 @@
 use Rattle.std.proofs.Common.{◌≡◌, ℕ, ◌<◌, true, false, arith, length, List, [], ◌∷◌, ◌++◌, Option, Some, None, refl, ap, sym, ◌∙◌, inl, inr}
 use Rattle.std.specs.Option.{IsSome, option_to_list}
 use Rattle.std.proofs.lemmas.List.{length-append, same_from_push}
-use Rattle.spmd_tree.specs.declared.tree.Statement.{Statement}
+use Rattle.spmd_tree.specs.declared.tree.SpmdStatement.{SpmdStatement}
 use Rattle.spmd_text.specs.declared.fault.ParseReason.{ParseReason}
 use Rattle.spmd_text.specs.declared.fault.ParseReason.TheVariants.{Memory}
 use Rattle.spmd_text.specs.declared.parser.Parser.{Parser}
@@ -21,13 +21,13 @@ made_then {old} {mid} {new} (inr e) (inl (again, b)) to = inr (again ∙ e)
 made_then {old} {mid} {new} (inr e) (inr f) to =
     inr (f ∙ (ap (λ (s : Parser). record s { fault = first_noted s.fault Memory }) e ∙ ap (λ (z : Option ParseReason). record old { fault = z }) (noted_twice old.fault)))
 
-pub in_turn_flat : (a b made : Statement) (xs ys : List Statement) → flat a ≡ flat_all xs → flat b ≡ flat_all ys → IsInTurn a b made → flat made ≡ flat_all (xs ++ ys)
+pub in_turn_flat : (a b made : SpmdStatement) (xs ys : List SpmdStatement) → flat a ≡ flat_all xs → flat b ≡ flat_all ys → IsInTurn a b made → flat made ≡ flat_all (xs ++ ys)
 in_turn_flat a b made xs ys e f m =
     ap flat m.is
-    ∙ (ap (λ (v : Statement). flat v ++ flat m.second.value) m.first_holds
-    ∙ (ap (λ (v : Statement). flat a ++ flat v) m.second_holds
-    ∙ (ap (λ (l : List Statement). l ++ flat b) e
-    ∙ (ap (λ (l : List Statement). flat_all xs ++ l) f ∙ sym (flat_append xs ys)))))
+    ∙ (ap (λ (v : SpmdStatement). flat v ++ flat m.second.value) m.first_holds
+    ∙ (ap (λ (v : SpmdStatement). flat a ++ flat v) m.second_holds
+    ∙ (ap (λ (l : List SpmdStatement). l ++ flat b) e
+    ∙ (ap (λ (l : List SpmdStatement). flat_all xs ++ l) f ∙ sym (flat_append xs ys)))))
 
 pub empty_of : {A : Type 0} (xs : List A) → length xs ≡ 0 → xs ≡ []
 empty_of [] e = refl

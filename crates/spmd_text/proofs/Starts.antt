@@ -2,14 +2,14 @@
 use Rattle.std.proofs.Common.{◌≡◌, ℕ, Bool, true, false, nat_eq, List, ◌∷◌, Option, Some, None, refl, ap, sym, subst, ◌∙◌}
 use Rattle.std.proofs.lemmas.Bool.{eq-eqb}
 use Rattle.std.proofs.lemmas.Option.{same_Some}
-use Rattle.spmd_tree.specs.declared.tree.Mode.TheVariants.{Standard, Synchronous, Buffered}
-use Rattle.spmd_tree.specs.declared.tree.Kind.TheVariants as kind
+use Rattle.spmd_tree.specs.declared.tree.SendMode.TheVariants.{Standard, Synchronous, Buffered}
+use Rattle.spmd_tree.specs.declared.tree.CollectiveKind.TheVariants as kind
 use Rattle.spmd_tree.specs.declared.tree.Expression.{Expression}
 use Rattle.spmd_tree.specs.declared.tree.Labels.{Labels}
 use Rattle.spmd_tree.specs.declared.tree.Arguments.{Arguments}
 use Rattle.spmd_tree.specs.declared.tree.Arguments.TheVariants as call
-use Rattle.spmd_tree.specs.declared.tree.Statement.{Statement}
-use Rattle.spmd_tree.specs.declared.tree.Statement.TheVariants as statement
+use Rattle.spmd_tree.specs.declared.tree.SpmdStatement.{SpmdStatement}
+use Rattle.spmd_tree.specs.declared.tree.SpmdStatement.TheVariants as statement
 use Rattle.spmd_text.specs.declared.calls.Form.{Form}
 use Rattle.spmd_text.specs.declared.calls.Form.TheVariants as form
 use Rattle.spmd_text.specs.declared.piece.Word.{Word}
@@ -153,13 +153,13 @@ word_of_call w f c is same =
 
 -- ---- what a word begins
 
-pub record IsAssign (s : Statement) : Type 0 where
+pub record IsAssign (s : SpmdStatement) : Type 0 where
   pub line : ℕ
   pub name : ℕ
   pub value : Expression
   pub is : s ≡ statement.Assign line name value
 
-pub is_assign : (s : Statement) → is_one s ≡ true → first_word s ≡ word.Let → IsAssign s
+pub is_assign : (s : SpmdStatement) → is_one s ≡ true → first_word s ≡ word.Let → IsAssign s
 is_assign statement.Nothing one e = absurd (let never : false ≡ true = one in cc)
 is_assign (statement.Sequence' p a q b) one e = absurd (let never : false ≡ true = one in cc)
 is_assign (statement.Parameter line name v) one e = absurd (let never : false ≡ true = one in cc)
@@ -172,11 +172,11 @@ is_assign (statement.Call line c) one e = absurd (no_call c word.Let refl e)
 is_assign (statement.WaitAll line requests) one e = absurd (let never : word.Waitall ≡ word.Let = e in cc)
 is_assign (statement.Unreached line) one e = absurd (let never : word.Error ≡ word.Let = e in cc)
 
-pub record IsUnreached (s : Statement) : Type 0 where
+pub record IsUnreached (s : SpmdStatement) : Type 0 where
   pub line : ℕ
   pub is : s ≡ statement.Unreached line
 
-pub is_unreached : (s : Statement) → is_one s ≡ true → first_word s ≡ word.Error → IsUnreached s
+pub is_unreached : (s : SpmdStatement) → is_one s ≡ true → first_word s ≡ word.Error → IsUnreached s
 is_unreached statement.Nothing one e = absurd (let never : false ≡ true = one in cc)
 is_unreached (statement.Sequence' p a q b) one e = absurd (let never : false ≡ true = one in cc)
 is_unreached (statement.Parameter line name v) one e = absurd (let never : false ≡ true = one in cc)
@@ -189,12 +189,12 @@ is_unreached (statement.Call line c) one e = absurd (no_call c word.Error refl e
 is_unreached (statement.WaitAll line requests) one e = absurd (let never : word.Waitall ≡ word.Error = e in cc)
 is_unreached (statement.Unreached line) one e = record { line = line; is = refl }
 
-pub record IsWaitAll (s : Statement) : Type 0 where
+pub record IsWaitAll (s : SpmdStatement) : Type 0 where
   pub line : ℕ
   pub requests : Labels
   pub is : s ≡ statement.WaitAll line requests
 
-pub is_wait_all : (s : Statement) → is_one s ≡ true → first_word s ≡ word.Waitall → IsWaitAll s
+pub is_wait_all : (s : SpmdStatement) → is_one s ≡ true → first_word s ≡ word.Waitall → IsWaitAll s
 is_wait_all statement.Nothing one e = absurd (let never : false ≡ true = one in cc)
 is_wait_all (statement.Sequence' p a q b) one e = absurd (let never : false ≡ true = one in cc)
 is_wait_all (statement.Parameter line name v) one e = absurd (let never : false ≡ true = one in cc)
@@ -207,7 +207,7 @@ is_wait_all (statement.Call line c) one e = absurd (no_call c word.Waitall refl 
 is_wait_all (statement.WaitAll line requests) one e = record { line = line; requests = requests; is = refl }
 is_wait_all (statement.Unreached line) one e = absurd (let never : word.Error ≡ word.Waitall = e in cc)
 
-pub record IsCall (s : Statement) : Type 0 where
+pub record IsCall (s : SpmdStatement) : Type 0 where
   pub line : ℕ
   pub arguments : Arguments
   pub is : s ≡ statement.Call line arguments
@@ -215,7 +215,7 @@ pub record IsCall (s : Statement) : Type 0 where
 calls_not : (v w : Word) → is_call_word v ≡ false → v ≡ w → is_call_word w ≡ true → ⊥
 calls_not v w none same calls = let never : false ≡ true = sym none ∙ (ap is_call_word same ∙ calls) in cc
 
-pub is_a_call : (s : Statement) (w : Word) → is_call_word w ≡ true → is_one s ≡ true → first_word s ≡ w → IsCall s
+pub is_a_call : (s : SpmdStatement) (w : Word) → is_call_word w ≡ true → is_one s ≡ true → first_word s ≡ w → IsCall s
 is_a_call statement.Nothing w calls one e = absurd (let never : false ≡ true = one in cc)
 is_a_call (statement.Sequence' p a q b) w calls one e = absurd (let never : false ≡ true = one in cc)
 is_a_call (statement.Parameter line name v) w calls one e = absurd (let never : false ≡ true = one in cc)

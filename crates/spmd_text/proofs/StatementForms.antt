@@ -3,8 +3,8 @@ use Rattle.std.proofs.Common.{◌≡◌, ℕ, true, List, Some, None, refl, ap, 
 use Rattle.spmd_tree.specs.declared.tree.Expression.{Expression}
 use Rattle.spmd_tree.specs.declared.tree.Labels.{Labels}
 use Rattle.spmd_tree.specs.declared.tree.Arguments.{Arguments}
-use Rattle.spmd_tree.specs.declared.tree.Statement.{Statement}
-use Rattle.spmd_tree.specs.declared.tree.Statement.TheVariants as statement
+use Rattle.spmd_tree.specs.declared.tree.SpmdStatement.{SpmdStatement}
+use Rattle.spmd_tree.specs.declared.tree.SpmdStatement.TheVariants as statement
 use Rattle.spmd_text.specs.declared.calls.Form.{Form}
 use Rattle.spmd_text.specs.declared.parser.Parser.{Parser}
 use Rattle.spmd_text.specs.declared.piece.Word.{Word}
@@ -36,14 +36,14 @@ assign_as old depth line name value = record {
   may = λ m. record { one = refl; begins = refl; obeys = (m.0.0, m.0.1) };
 }
   where
-    back : (w : Statement) (rest : List Token) → old.fault ≡ None → Begins (scope_of old) depth word.Let w → after_statement w (put_back line word.Let (Some old.rest.now)) ≡ Some rest → true ≡ true
+    back : (w : SpmdStatement) (rest : List Token) → old.fault ≡ None → Begins (scope_of old) depth word.Let w → after_statement w (put_back line word.Let (Some old.rest.now)) ≡ Some rest → true ≡ true
         → (x : (ℕ × Expression) × Unit {0}) × SyntaxPart.May (then_part (then_part (variable_part (scope_of old)) (value_part old.in_parameter)) (piece_part piece.LineEnd)) x
         × (after_piece piece.LineEnd (after_value x.0.1 (after_piece piece.Equals (after_piece (piece.Name x.0.0) (Some old.rest.now)))) ≡ Some rest) × (true ≡ true)
         × (SyntaxPart.Same (then_part (then_part (variable_part (scope_of old)) (value_part old.in_parameter)) (piece_part piece.LineEnd)) ((name, value), tt) x → Unit {0})
     back w rest sound may e ends =
         let s = is_assign w may.one may.begins in
         let o = subst (Obeys (scope_of old) depth) s.is may.obeys in
-        let f = subst (λ (z : Statement). after_statement z (put_back line word.Let (Some old.rest.now)) ≡ Some rest) s.is e in (
+        let f = subst (λ (z : SpmdStatement). after_statement z (put_back line word.Let (Some old.rest.now)) ≡ Some rest) s.is e in (
           ((s.name, s.value), tt),
           ((o.0, o.1), tt),
           start_behind (λ z. after_piece piece.LineEnd (after_value s.value (after_piece piece.Equals (after_piece (piece.Name s.name) z)))) (ap (λ (z : Rest). after_piece piece.LineEnd z) (value_strict s.value)) s.line line word.Let word.Let old.rest.now rest f,
@@ -59,11 +59,11 @@ unreached_as old depth line = record {
   may = λ m. record { one = refl; begins = refl; obeys = tt };
 }
   where
-    back : (w : Statement) (rest : List Token) → old.fault ≡ None → Begins (scope_of old) depth word.Error w → after_statement w (put_back line word.Error (Some old.rest.now)) ≡ Some rest → true ≡ true
+    back : (w : SpmdStatement) (rest : List Token) → old.fault ≡ None → Begins (scope_of old) depth word.Error w → after_statement w (put_back line word.Error (Some old.rest.now)) ≡ Some rest → true ≡ true
         → (x : Unit {0}) × Unit {0} × (after_piece piece.LineEnd (Some old.rest.now) ≡ Some rest) × (true ≡ true) × (Unit {0} → Unit {0})
     back w rest sound may e ends =
         let s = is_unreached w may.one may.begins in
-        let f = subst (λ (z : Statement). after_statement z (put_back line word.Error (Some old.rest.now)) ≡ Some rest) s.is e in
+        let f = subst (λ (z : SpmdStatement). after_statement z (put_back line word.Error (Some old.rest.now)) ≡ Some rest) s.is e in
         (tt, tt, start_behind (λ z. after_piece piece.LineEnd z) refl s.line line word.Error word.Error old.rest.now rest f, refl, λ same. tt)
 
 pub wait_all_as : (old : Parser) (depth line : ℕ) (requests : Labels)
@@ -74,13 +74,13 @@ wait_all_as old depth line requests = record {
   may = λ m. record { one = refl; begins = refl; obeys = m.0 };
 }
   where
-    back : (w : Statement) (rest : List Token) → old.fault ≡ None → Begins (scope_of old) depth word.Waitall w → after_statement w (put_back line word.Waitall (Some old.rest.now)) ≡ Some rest → true ≡ true
+    back : (w : SpmdStatement) (rest : List Token) → old.fault ≡ None → Begins (scope_of old) depth word.Waitall w → after_statement w (put_back line word.Waitall (Some old.rest.now)) ≡ Some rest → true ≡ true
         → (x : Labels × Unit {0}) × SyntaxPart.May (then_part (labels_part old.in_parameter old.names.now 1024) (piece_part piece.LineEnd)) x
         × (after_piece piece.LineEnd (after_labels x.0 (Some old.rest.now)) ≡ Some rest) × (true ≡ true) × ((Unit {0} × Unit {0}) → Unit {0})
     back w rest sound may e ends =
         let s = is_wait_all w may.one may.begins in
         let o = subst (Obeys (scope_of old) depth) s.is may.obeys in
-        let f = subst (λ (z : Statement). after_statement z (put_back line word.Waitall (Some old.rest.now)) ≡ Some rest) s.is e in (
+        let f = subst (λ (z : SpmdStatement). after_statement z (put_back line word.Waitall (Some old.rest.now)) ≡ Some rest) s.is e in (
           (s.requests, tt),
           (o, tt),
           start_behind (λ z. after_piece piece.LineEnd (after_labels s.requests z)) (ap (λ (z : Rest). after_piece piece.LineEnd z) (labels_strict s.requests)) s.line line word.Waitall word.Waitall old.rest.now rest f,
@@ -106,14 +106,14 @@ call_as old depth line w found c calls is word_so = record {
   may = λ m. record { one = refl; begins = word_so m.0.0; obeys = m.0.1 };
 }
   where
-    back : (x : Statement) (rest : List Token) → old.fault ≡ None → Begins (scope_of old) depth w x → after_statement x (put_back line w (Some old.rest.now)) ≡ Some rest → ends_behind w rest ≡ true
+    back : (x : SpmdStatement) (rest : List Token) → old.fault ≡ None → Begins (scope_of old) depth w x → after_statement x (put_back line w (Some old.rest.now)) ≡ Some rest → ends_behind w rest ≡ true
         → (x : Arguments × Unit {0}) × SyntaxPart.May (then_part (arguments_part old.in_parameter old.names.now found) (piece_part piece.LineEnd)) x
         × (after_piece piece.LineEnd (after_arguments x.0 (Some old.rest.now)) ≡ Some rest) × (true ≡ true) × ((Unit {0} × Unit {0}) → Unit {0})
     back x rest sound may e ends =
         let s = is_a_call x w calls may.one may.begins in
         let o = subst (Obeys (scope_of old) depth) s.is may.obeys in
-        let b = subst (λ (z : Statement). first_word z ≡ w) s.is may.begins in
-        let f = subst (λ (z : Statement). after_statement z (put_back line w (Some old.rest.now)) ≡ Some rest) s.is e in (
+        let b = subst (λ (z : SpmdStatement). first_word z ≡ w) s.is may.begins in
+        let f = subst (λ (z : SpmdStatement). after_statement z (put_back line w (Some old.rest.now)) ≡ Some rest) s.is e in (
           (s.arguments, tt),
           ((word_form s.arguments w found is b, o), tt),
           start_behind (λ z. after_piece piece.LineEnd (after_arguments s.arguments z)) (ap (λ (z : Rest). after_piece piece.LineEnd z) (arguments_strict s.arguments)) s.line line (call_word s.arguments) w old.rest.now rest f,
@@ -121,8 +121,8 @@ call_as old depth line w found c calls is word_so = record {
           λ same. tt,
         )
 
-pub no_form : (old : Parser) (depth line : ℕ) (w : Word) (x : Statement) → is_call_word w ≡ true → syntax_form w ≡ None → Begins (scope_of old) depth w x → ⊥
+pub no_form : (old : Parser) (depth line : ℕ) (w : Word) (x : SpmdStatement) → is_call_word w ≡ true → syntax_form w ≡ None → Begins (scope_of old) depth w x → ⊥
 no_form old depth line w x calls none may =
     let s = is_a_call x w calls may.one may.begins in
-    let b = subst (λ (z : Statement). first_word z ≡ w) s.is may.begins in
+    let b = subst (λ (z : SpmdStatement). first_word z ≡ w) s.is may.begins in
     none_some (form_of_call s.arguments) (sym none ∙ (ap syntax_form (sym b) ∙ form_of_word s.arguments))

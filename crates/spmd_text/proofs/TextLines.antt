@@ -4,8 +4,8 @@ use Rattle.std.proofs.lemmas.List.{append-nil, append_assoc}
 use Rattle.std.proofs.lemmas.Option.{same_Some}
 use Rattle.std.specs.List.{list_all}
 use Rattle.std.specs.Global.{Vec}
-use Rattle.spmd_tree.specs.declared.tree.Statement.{Statement}
-use Rattle.spmd_tree.specs.declared.tree.Statement.TheVariants as statement
+use Rattle.spmd_tree.specs.declared.tree.SpmdStatement.{SpmdStatement}
+use Rattle.spmd_tree.specs.declared.tree.SpmdStatement.TheVariants as statement
 use Rattle.spmd_text.specs.declared.fault.ParseReason.{ParseReason}
 use Rattle.spmd_text.specs.declared.fault.ParseReason.TheVariants.{Memory}
 use Rattle.spmd_text.specs.declared.parser.Parser.{Parser}
@@ -13,8 +13,8 @@ use Rattle.spmd_text.specs.declared.piece.Word.TheVariants as word
 use Rattle.spmd_text.specs.declared.piece.Piece.{Piece}
 use Rattle.spmd_text.specs.declared.piece.Piece.TheVariants as piece
 use Rattle.spmd_text.specs.declared.piece.Token.{Token}
-use Rattle.spmd_text.specs.declared.reading.Policy.{Policy}
-use Rattle.spmd_text.specs.declared.reading.Policy.TheVariants as policy
+use Rattle.spmd_text.specs.declared.reading.SpmdPolicy.{SpmdPolicy}
+use Rattle.spmd_text.specs.declared.reading.SpmdPolicy.TheVariants as policy
 use Rattle.spmd_text.specs.Limits.{IsTreeWithin}
 use Rattle.spmd_text.specs.parts.Reading.{Finds, Sticks, next, next_of}
 use Rattle.spmd_text.specs.Words.{code}
@@ -96,7 +96,7 @@ only_heading l outer line next first (lines.text_end h) =
     absurd (never_true (sym (ap takes_statement (sym (ap (λ (x : Level). x.block) (first_level l h.level outer [] h.here)) ∙ first)) ∙ h.begun))
 
 -- the line of the policy is wrong
-policy_tells : (old new : Parser) (p : Policy) (scope : Scope) (depth n : ℕ) → HasRead policy_line_part old new p → (old.fault ≡ None → n ≡ line_of_first_piece old.rest.now)
+policy_tells : (old new : Parser) (p : SpmdPolicy) (scope : Scope) (depth n : ℕ) → HasRead policy_line_part old new p → (old.fault ≡ None → n ≡ line_of_first_piece old.rest.now)
     → TellsLine (only_level lines.headed scope depth) old new old.rest.now n
 policy_tells old new p scope depth n r told why sound wrong other ended =
     stuck_here kind.policy (only_level lines.headed scope depth) old.rest.now n ended (kind_begins (piece.Word word.Policy) old.rest.now said) (told sound)
@@ -112,12 +112,12 @@ policy_tells old new p scope depth n r told why sound wrong other ended =
             absurd (none_found r why sound wrong other policy.Any old.rest.now
             (not_chosen (piece_begins (piece.Word word.Policy) (Some old.rest.now)) (after_piece piece.LineEnd (after_piece (piece.Word word.Any) (after_piece (piece.Word word.Policy) (Some old.rest.now)))) (Some old.rest.now) e) tt refl)
 
-    written : (q : Policy) (beyond : List Token) → after_piece piece.LineEnd (after_piece (piece.Word (word_of_policy q)) (after_piece (piece.Word word.Policy) (Some old.rest.now))) ≡ Some beyond
+    written : (q : SpmdPolicy) (beyond : List Token) → after_piece piece.LineEnd (after_piece (piece.Word (word_of_policy q)) (after_piece (piece.Word word.Policy) (Some old.rest.now))) ≡ Some beyond
         → after_policy q (Some old.rest.now) ≡ Some beyond
     written q beyond e =
         chosen (piece_begins (piece.Word word.Policy) (Some old.rest.now)) (after_piece piece.LineEnd (after_piece (piece.Word (word_of_policy q)) (after_piece (piece.Word word.Policy) (Some old.rest.now)))) (only (is_any q) (Some old.rest.now)) said ∙ e
 
-pub heading_tells : {old mid new : Parser} {p : Policy} {n m : ℕ} (depth : ℕ) → HasRead heading_line_part old mid (tt {0}) → HasRead policy_line_part mid new p
+pub heading_tells : {old mid new : Parser} {p : SpmdPolicy} {n m : ℕ} (depth : ℕ) → HasRead heading_line_part old mid (tt {0}) → HasRead policy_line_part mid new p
     → (old.fault ≡ None → n ≡ line_of_first_piece old.rest.now) → (mid.fault ≡ None → m ≡ line_of_first_piece mid.rest.now) → ((why : ParseReason) → mid.fault ≡ Some why → m ≡ n)
     → TellsLine (level_at lines.start old depth ∷ []) old new old.rest.now m
 heading_tells {old} {mid} {new} {p} {n} {m} depth one two told again stays =
@@ -207,7 +207,7 @@ early_on {b} {scope} {mid} {last} {depth} {here} {between} {rest} one other = re
   runs = runs_to_on one.runs other.runs;
 }
 
-rows_run : (xs : List Statement) (b : Block) (scope : Scope) (depth : ℕ) (here rest : List Token) → lists b ≡ true → MayRow scope.parameters xs → behind_all xs (Some here) ≡ Some rest
+rows_run : (xs : List SpmdStatement) (b : Block) (scope : Scope) (depth : ℕ) (here rest : List Token) → lists b ≡ true → MayRow scope.parameters xs → behind_all xs (Some here) ≡ Some rest
     → RunsEarly b scope (grown (names_of xs) scope) depth here rest
 unfolding with_parameters
 rows_run [] b scope depth here rest early may e =
@@ -235,7 +235,7 @@ scope_grown {old} {new} {names} g sound =
     ∙ (ap (λ (ps : List ℕ). record { in_parameter = old.in_parameter; names = old.names.now; parameters = ps; loops = new.loops.items }) (g.parameters sound)
     ∙ ap (λ (ls : List ℕ). record { in_parameter = old.in_parameter; names = old.names.now; parameters = old.parameters.items ++ names; loops = ls }) g.loops))
 
-parameter_tells : {s mid : Parser} {item : Statement} (block : Block) (depth n : ℕ) → ReadsOne s mid item → (s.fault ≡ None → piece_begins (piece.Word word.Param) (Some s.rest.now) ≡ true)
+parameter_tells : {s mid : Parser} {item : SpmdStatement} (block : Block) (depth n : ℕ) → ReadsOne s mid item → (s.fault ≡ None → piece_begins (piece.Word word.Param) (Some s.rest.now) ≡ true)
     → (s.fault ≡ None → n ≡ line_of_first_piece s.rest.now) → TellsLine (level_at block s depth ∷ []) s mid s.rest.now n
 parameter_tells {s} {mid} {item} block depth n r said told why sound wrong other ended =
     stuck_here kind.parameter (level_at block s depth ∷ []) s.rest.now n ended (kind_begins (piece.Word word.Param) s.rest.now (said sound)) (told sound)
@@ -256,7 +256,7 @@ pub record ParameterLines (old s : Parser) (before after_piece : ℕ) : Type 0 w
 pub parameter_lines_begun : (old : Parser) (n : ℕ) → ParameterLines old old n n
 parameter_lines_begun old n = record { stays = λ why e. refl; tells = λ block depth early. tells_none (level_at block old depth ∷ []) old old old.rest.now n refl }
 
-pub parameter_lines_more : {old s mid new : Parser} {list : List Statement} {Made : Type 0} {before at n : ℕ} (item : Statement) → ParametersSoFar old s list → ParameterLines old s before at
+pub parameter_lines_more : {old s mid new : Parser} {list : List SpmdStatement} {Made : Type 0} {before at n : ℕ} (item : SpmdStatement) → ParametersSoFar old s list → ParameterLines old s before at
     → nat_eq (code (next_of s.fault s.rest.now)) (code (piece.Word word.Param)) ≡ true → ReadsOne s mid item → (s.fault ≡ None → n ≡ line_of_first_piece s.rest.now)
     → ((why : ParseReason) → s.fault ≡ Some why → n ≡ at) → MakesOrLacksMemory mid new Made → ParameterLines old new before n
 parameter_lines_more {old} {s} {mid} {new} {list} {Made} {before} {at} {n} item so_far lined is r told stays makes = record {
@@ -402,7 +402,7 @@ record Ends (levels : List Level) (s : Parser) (here : List Token) : Type 0 wher
   pub outermost : is_inner block ≡ false
   pub runs : RunsTo levels (only_level block (scope_of s) 32) here s.rest.now
 
-led_heading : {old h : Parser} {p : Policy} → HasRead heading_part old h p → h.fault ≡ None → Led (level_at lines.start old 32 ∷ []) h old.rest.now
+led_heading : {old h : Parser} {p : SpmdPolicy} → HasRead heading_part old h p → h.fault ≡ None → Led (level_at lines.start old 32 ∷ []) h old.rest.now
 led_heading {old} {h} {p} r sound =
     let e = r.stands sound in
     let mid = left_before (after_policy p) (policy_line_strict p) (after_piece piece.LineEnd (after_piece (piece.Word word.Spmd) (Some old.rest.now))) h.rest.now e in
@@ -415,7 +415,7 @@ led_heading {old} {h} {p} r sound =
       runs = subst (λ (c : Scope). RunsTo (level_at lines.start old 32 ∷ []) (only_level g.runs.block c 32) old.rest.now h.rest.now) (sym (scope_same r.goes)) (runs_to_on f g.runs.runs);
     }
 
-led_parameters : {levels : List Level} {h p : Parser} {heads : Statement} {here : List Token} → Led levels h here → ReadsParameters h p heads → p.fault ≡ None → Led levels p here
+led_parameters : {levels : List Level} {h p : Parser} {heads : SpmdStatement} {here : List Token} → Led levels h here → ReadsParameters h p heads → p.fault ≡ None → Led levels p here
 led_parameters {levels} {h} {p} {heads} {here} led r sound =
     let e = parameters_run heads led.block (scope_of h) 32 h.rest.now p.rest.now led.early (r.meets.may sound) (r.meets.stands sound) in
     record {
@@ -425,7 +425,7 @@ led_parameters {levels} {h} {p} {heads} {here} led r sound =
       runs = subst (λ (c : Scope). RunsTo levels (only_level e.block c 32) here p.rest.now) (sym (scope_grown r.goes sound)) (runs_to_on led.runs e.runs);
     }
 
-ends_statements : {levels : List Level} {p s : Parser} {all : Statement} {here : List Token} → Led levels p here → HasRead (statements_part (scope_of p) 32) p s all → s.fault ≡ None → Ends levels s here
+ends_statements : {levels : List Level} {p s : Parser} {all : SpmdStatement} {here : List Token} → Led levels p here → HasRead (statements_part (scope_of p) 32) p s all → s.fault ≡ None → Ends levels s here
 ends_statements {levels} {p} {s} {all} {here} led r sound = by_runs run.runs
   where
     run : RunsTo (only_level lines.plain (scope_of p) 32) (only_level lines.plain (scope_of p) 32) p.rest.now s.rest.now
@@ -459,7 +459,7 @@ pub record PartTells (old new : Parser) (before after_piece : ℕ) (Told : Type 
   pub stays : (why : ParseReason) → old.fault ≡ Some why → after_piece ≡ before
   pub tells : Told
 
-pub text_tells : {old h p s e n : Parser} {pol : Policy} {heads all : Statement} {a b c d : ℕ} {Made : Type 0} → old.in_parameter ≡ false → old.parameters.items ≡ [] → old.loops.items ≡ []
+pub text_tells : {old h p s e n : Parser} {pol : SpmdPolicy} {heads all : SpmdStatement} {a b c d : ℕ} {Made : Type 0} → old.in_parameter ≡ false → old.parameters.items ≡ [] → old.loops.items ≡ []
     → IsEnded old.rest.now → HasRead heading_part old h pol → ((depth : ℕ) → TellsLine (level_at lines.start old depth ∷ []) old h old.rest.now a) → ReadsParameters h p heads
     → PartTells h p a b ((block : Block) (depth : ℕ) → lists block ≡ true → TellsLine (level_at block h depth ∷ []) h p h.rest.now b) → (p.fault ≡ None → piece_begins (piece.Word word.Param) (Some p.rest.now) ≡ false)
     → HasRead (statements_part (scope_of p) 32) p s all

@@ -4,8 +4,8 @@ use Rattle.std.proofs.lemmas.Bool.{false≢true}
 use Rattle.std.proofs.lemmas.List.{append_assoc, append-nil}
 use Rattle.std.proofs.lemmas.Option.{same_Some}
 use Rattle.spmd_tree.specs.declared.tree.Expression.{Expression}
-use Rattle.spmd_tree.specs.declared.tree.Statement.{Statement}
-use Rattle.spmd_tree.specs.declared.tree.Statement.TheVariants as statement
+use Rattle.spmd_tree.specs.declared.tree.SpmdStatement.{SpmdStatement}
+use Rattle.spmd_tree.specs.declared.tree.SpmdStatement.TheVariants as statement
 use Rattle.spmd_text.specs.declared.calls.Form.{Form}
 use Rattle.spmd_text.specs.declared.lines.Span.{Span}
 use Rattle.spmd_text.specs.declared.piece.Word.{Word}
@@ -70,11 +70,11 @@ runs_one {f} {levels} {next} {here} {rest} takes_one e steps =
       runs = more (record { line = a.line; rest = []; next = next; split = sym (append-nil a.line); steps = steps a.line a.spelled }) (done refl refl);
     }
 
-abbrev pub block_behind : Statement → Block
+abbrev pub block_behind : SpmdStatement → Block
 block_behind s = if is_open_tail s then branch else last
 
 -- what stands behind the statements of a branch leads to a branch, or to the last one
-pub record TailRuns (scope : Scope) (depth : ℕ) (outer : List Level) (s : Statement) (here rest : List Token) : Type 0 where
+pub record TailRuns (scope : Scope) (depth : ℕ) (outer : List Level) (s : SpmdStatement) (here rest : List Token) : Type 0 where
   pub level : Level
   pub kind : level.block ≡ block_behind s
   pub runs : RunsTo (record { block = branch; scope = scope; depth = depth } ∷ outer) (level ∷ outer) here rest
@@ -112,15 +112,15 @@ behind_same block scope depth outer is = ap (λ (b : Block). level_of b scope de
 
 -- ---- statements, and what stands behind those of a branch
 
-abbrev Leads : Statement → Type 0
+abbrev Leads : SpmdStatement → Type 0
 Leads s = (block : Block) (scope : Scope) (depth : ℕ) (outer : List Level) (here rest : List Token) → is_settled block ≡ true → MayStatements scope depth s
     → after_statement s (Some here) ≡ Some rest → RunsTo (level_of block scope depth ∷ outer) (level_of block scope depth ∷ outer) here rest
 
-abbrev TailLeads : Statement → Type 0
+abbrev TailLeads : SpmdStatement → Type 0
 TailLeads s = (scope : Scope) (depth : ℕ) (outer : List Level) (here rest : List Token) → MayTail scope depth s → after_statement s (Some here) ≡ Some rest
     → TailRuns scope depth outer s here rest
 
-simple_leads : (s : Statement) → is_one s ≡ true → is_simple (first_word s) ≡ true → Leads s
+simple_leads : (s : SpmdStatement) → is_one s ≡ true → is_simple (first_word s) ≡ true → Leads s
 simple_leads s one is_so block scope depth outer here rest is may e =
     runs_one (simple_line s one is_so) e
     (λ line f.
@@ -143,7 +143,7 @@ end_leads level outer here rest inner e =
     runs_one end_line e (λ line f. end (record { level = level; outer = outer; here = refl; inner = inner; spelled = f; is = refl }))
 
 -- two statements
-pair_leads : (p q : Place) (a b : Statement) → Leads a → Leads b → Leads (statement.Sequence' p a q b)
+pair_leads : (p q : Place) (a b : SpmdStatement) → Leads a → Leads b → Leads (statement.Sequence' p a q b)
 pair_leads p q a b one two block scope depth outer here rest is may e =
     let o = only_left (not (is_branch a) && not (is_branch b)) (after_statement b (after_statement a (Some here))) rest e in
     let m = left_before (after_statement b) (statement_strict b) (after_statement a (Some here)) rest o.1 in
@@ -152,7 +152,7 @@ pair_leads p q a b one two block scope depth outer here rest is may e =
     (two block scope depth outer m.0 rest is (record { plain = not_so (is_branch b) (and_right (not (is_branch a)) (not (is_branch b)) o.0); obeys = may.obeys.1 })
     (ap (after_statement b) (sym m.1) ∙ o.1))
 
-loop_leads : (line name : ℕ) (span : Span) (p : Place) (a : Statement) → Leads a → Leads (statement.Repeat' line name span.first span.last span.step p a)
+loop_leads : (line name : ℕ) (span : Span) (p : Place) (a : SpmdStatement) → Leads a → Leads (statement.Repeat' line name span.first span.last span.step p a)
 loop_leads line name span p a inside block scope depth outer here rest is may e =
     let level : Level = level_of block scope depth in
     let head : Rest = after_span span.first span.last (pos span.step) (after_variable line word.For name (Some here)) in
@@ -185,14 +185,14 @@ loop_leads line name span p a inside block scope depth outer here rest is may e 
     (end_leads body (level ∷ outer) ended.0 rest refl (ap (after_end false) (sym ended.1) ∙ o.1)))
 
 -- a branch up to its end
-record BranchRuns (levels outer : List Level) (is_chained : Bool) (b : Statement) (here rest : List Token) : Type 0 where
+record BranchRuns (levels outer : List Level) (is_chained : Bool) (b : SpmdStatement) (here rest : List Token) : Type 0 where
   before : List Token
   ended : after_end is_chained (Some before) ≡ Some rest
   level : Level
   kind : level.block ≡ block_behind b
   runs : RunsTo levels (level ∷ outer) here before
 
-branch_leads : (line : ℕ) (is_chained : Bool) (c : Expression) (p q : Place) (a b : Statement) → Leads a → TailLeads b
+branch_leads : (line : ℕ) (is_chained : Bool) (c : Expression) (p q : Place) (a b : SpmdStatement) → Leads a → TailLeads b
     → (levels : List Level) (scope : Scope) (depth : ℕ) (outer : List Level) (here rest : List Token)
     → ((ts : List Token) → after_head line is_chained c (Some ts) ≡ Some [] → Steps levels ts (level_of branch scope depth ∷ outer))
     → Obeys scope depth a → Obeys scope depth b → after_statement (statement.When' line is_chained c p a q b) (Some here) ≡ Some rest
@@ -220,7 +220,7 @@ branch_leads line is_chained c p q a b inside behind levels scope depth outer he
           others.runs);
     }
 
-if_leads : (line : ℕ) (c : Expression) (p q : Place) (a b : Statement) → Leads a → TailLeads b → Leads (statement.When' line false c p a q b)
+if_leads : (line : ℕ) (c : Expression) (p q : Place) (a b : SpmdStatement) → Leads a → TailLeads b → Leads (statement.When' line false c p a q b)
 if_leads line c p q a b inside behind block scope depth outer here rest is may e =
     let level : Level = level_of block scope depth in
     let whole : BranchRuns (level ∷ outer) (level ∷ outer) false b here rest =
@@ -242,7 +242,7 @@ if_leads line c p q a b inside behind block scope depth outer here rest is may e
     may.obeys.2 may.obeys.3 e in
     runs_to_on whole.runs (end_leads whole.level (level ∷ outer) whole.before rest (ap is_inner whole.kind ∙ open_inner (is_open_tail b)) whole.ended)
 
-elif_leads : (line : ℕ) (c : Expression) (p q : Place) (a b : Statement) → Leads a → TailLeads b → TailLeads (statement.When' line true c p a q b)
+elif_leads : (line : ℕ) (c : Expression) (p q : Place) (a b : SpmdStatement) → Leads a → TailLeads b → TailLeads (statement.When' line true c p a q b)
 elif_leads line c p q a b inside behind scope depth outer here rest may e =
     let level : Level = level_of branch scope depth in
     let whole : BranchRuns (level ∷ outer) outer true b here rest =
@@ -264,7 +264,7 @@ elif_leads line c p q a b inside behind scope depth outer here rest may e =
     may.obeys.2 may.obeys.3 e in
     record { level = whole.level; kind = whole.kind; runs = runs_to_on whole.runs (runs_nowhere (whole.level ∷ outer) whole.before rest whole.ended) }
 
-else_leads : (p : Place) (a : Statement) → Leads a → TailLeads (statement.Otherwise' p a)
+else_leads : (p : Place) (a : SpmdStatement) → Leads a → TailLeads (statement.Otherwise' p a)
 else_leads p a inside scope depth outer here rest may e =
     let level : Level = level_of branch scope depth in
     let head : Rest = after_piece piece.LineEnd (after_piece (piece.Word word.Else) (Some here)) in
@@ -279,13 +279,13 @@ else_leads p a inside scope depth outer here rest may e =
           (inside last scope depth outer begun.0 rest refl (record { plain = not_so (is_branch a) o.0; obeys = may.obeys }) (ap (after_statement a) (sym begun.1) ∙ o.1));
     }
 
-no_tail : (s : Statement) → is_tail s ≡ false → TailLeads s
+no_tail : (s : SpmdStatement) → is_tail s ≡ false → TailLeads s
 no_tail s none scope depth outer here rest may e = absurd (false≢true (sym none ∙ may.tail))
 
-no_statement : (s : Statement) → is_branch s ≡ true → Leads s
+no_statement : (s : SpmdStatement) → is_branch s ≡ true → Leads s
 no_statement s is_so block scope depth outer here rest is may e = absurd (false≢true (sym may.plain ∙ is_so))
 
-leads : (s : Statement) → Leads s × TailLeads s
+leads : (s : SpmdStatement) → Leads s × TailLeads s
 unfolding is_tail
 leads statement.Nothing = (
   λ block scope depth outer here rest is may e. runs_nowhere (level_of block scope depth ∷ outer) here rest e,
@@ -306,11 +306,11 @@ leads (statement.WaitAll line requests) = (simple_leads (statement.WaitAll line 
 leads (statement.Unreached line) = (simple_leads (statement.Unreached line) refl refl, no_tail (statement.Unreached line) refl)
 
 -- statements lead back to where they began
-pub statements_run : (s : Statement) (block : Block) (scope : Scope) (depth : ℕ) (outer : List Level) (here rest : List Token) → is_settled block ≡ true → MayStatements scope depth s
+pub statements_run : (s : SpmdStatement) (block : Block) (scope : Scope) (depth : ℕ) (outer : List Level) (here rest : List Token) → is_settled block ≡ true → MayStatements scope depth s
     → after_statement s (Some here) ≡ Some rest
     → RunsTo (record { block = block; scope = scope; depth = depth } ∷ outer) (record { block = block; scope = scope; depth = depth } ∷ outer) here rest
 statements_run s block scope depth outer here rest is may e = (leads s).0 block scope depth outer here rest is may e
 
-pub tail_runs : (s : Statement) (scope : Scope) (depth : ℕ) (outer : List Level) (here rest : List Token) → MayTail scope depth s → after_statement s (Some here) ≡ Some rest
+pub tail_runs : (s : SpmdStatement) (scope : Scope) (depth : ℕ) (outer : List Level) (here rest : List Token) → MayTail scope depth s → after_statement s (Some here) ≡ Some rest
     → TailRuns scope depth outer s here rest
 tail_runs s scope depth outer here rest may e = (leads s).1 scope depth outer here rest may e

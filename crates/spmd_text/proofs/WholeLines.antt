@@ -4,15 +4,15 @@ use Rattle.std.proofs.lemmas.Bool.{false≢true}
 use Rattle.std.proofs.lemmas.List.{append_assoc, append-nil}
 use Rattle.std.proofs.lemmas.Option.{same_Some}
 use Rattle.spmd_tree.specs.declared.tree.Expression.{Expression}
-use Rattle.spmd_tree.specs.declared.tree.Statement.{Statement}
-use Rattle.spmd_tree.specs.declared.tree.Statement.TheVariants as statement
+use Rattle.spmd_tree.specs.declared.tree.SpmdStatement.{SpmdStatement}
+use Rattle.spmd_tree.specs.declared.tree.SpmdStatement.TheVariants as statement
 use Rattle.spmd_text.specs.declared.lines.Span.{Span}
 use Rattle.spmd_text.specs.declared.piece.Word.{Word}
 use Rattle.spmd_text.specs.declared.piece.Word.TheVariants as word
 use Rattle.spmd_text.specs.declared.piece.Piece.{Piece}
 use Rattle.spmd_text.specs.declared.piece.Piece.TheVariants as piece
 use Rattle.spmd_text.specs.declared.piece.Token.{Token}
-use Rattle.spmd_text.specs.declared.reading.Policy.{Policy}
+use Rattle.spmd_text.specs.declared.reading.SpmdPolicy.{SpmdPolicy}
 use Rattle.spmd_text.specs.Spelling.{Rest, after_piece, after_end, after_gap, after_head, after_parameter, after_span, after_statement, after_variable, branch_word, call_word, is_piece, only, word_of_policy, same_number}
 use Rattle.spmd_text.specs.parts.Statements.{first_word, is_one, is_simple}
 use Rattle.spmd_text.specs.parts.Lines.{is_text_end}
@@ -154,14 +154,14 @@ framed_variable line w name = framed_on (framed_on (framed_start line w) (framed
 pub heading_line : IsLineTaker (λ z. after_piece piece.LineEnd (after_piece (piece.Word word.Spmd) z))
 heading_line = to_end (framed_word word.Spmd)
 
-pub policy_line : (p : Policy) → IsLineTaker (λ z. after_piece piece.LineEnd (after_piece (piece.Word (word_of_policy p)) (after_piece (piece.Word word.Policy) z)))
+pub policy_line : (p : SpmdPolicy) → IsLineTaker (λ z. after_piece piece.LineEnd (after_piece (piece.Word (word_of_policy p)) (after_piece (piece.Word word.Policy) z)))
 policy_line p = to_end (framed_on (framed_word word.Policy) (framed_word (word_of_policy p)))
 
 pub parameter_line : (number name : ℕ) (value : Option Expression) → IsLineTaker (after_parameter number name value)
 parameter_line number name value =
     to_end (framed_on (framed_on (framed_start number word.Param) (framed_piece (piece.Name name) refl)) (framed_optional piece.Equals refl value))
 
-pub simple_line : (s : Statement) → is_one s ≡ true → is_simple (first_word s) ≡ true → IsLineTaker (after_statement s)
+pub simple_line : (s : SpmdStatement) → is_one s ≡ true → is_simple (first_word s) ≡ true → IsLineTaker (after_statement s)
 simple_line statement.Nothing one simple = absurd (false≢true one)
 simple_line (statement.Sequence' p a q b) one simple = absurd (false≢true one)
 simple_line (statement.Parameter line name v) one simple = absurd (false≢true one)

@@ -1,15 +1,15 @@
 -- A whole text is read: its heading, its parameters, its statements, and its end.
 use Rattle.std.proofs.Common.{◌≡◌, ℕ, Bool, true, false, not, ◌&&◌, ◌||◌, List, [], ◌∷◌, ◌++◌, Some, None, refl, ap, sym, subst, ◌∙◌, inr}
 use Rattle.std.specs.Global.{Vec}
-use Rattle.spmd_tree.specs.declared.tree.Statement.{Statement}
-use Rattle.spmd_tree.specs.declared.tree.Statement.TheVariants as statement
+use Rattle.spmd_tree.specs.declared.tree.SpmdStatement.{SpmdStatement}
+use Rattle.spmd_tree.specs.declared.tree.SpmdStatement.TheVariants as statement
 use Rattle.spmd_text.specs.declared.parser.Parser.{Parser}
 use Rattle.spmd_text.specs.declared.piece.Word.{Word}
 use Rattle.spmd_text.specs.declared.piece.Word.TheVariants as word
 use Rattle.spmd_text.specs.declared.piece.Piece.{Piece}
 use Rattle.spmd_text.specs.declared.piece.Piece.TheVariants as piece
 use Rattle.spmd_text.specs.declared.piece.Token.{Token}
-use Rattle.spmd_text.specs.declared.reading.Policy.{Policy}
+use Rattle.spmd_text.specs.declared.reading.SpmdPolicy.{SpmdPolicy}
 use Rattle.spmd_text.specs.parts.Reading.{Finds, Goes, StandsBefore}
 use Rattle.spmd_text.specs.Spelling.{Rest, after_statement, piece_begins, is_branch, only}
 use Rattle.spmd_text.specs.parts.Parts.{HasRead, lacks}
@@ -33,7 +33,7 @@ use Rattle.spmd_text.proofs.Starts.{no_call}
 -- ---- what ends parts of a text
 
 -- no statement but a parameter begins with the word of one
-param_word : (s : Statement) → is_one s ≡ true → first_word s ≡ word.Param → ⊥
+param_word : (s : SpmdStatement) → is_one s ≡ true → first_word s ≡ word.Param → ⊥
 param_word statement.Nothing one e = let never : false ≡ true = one in cc
 param_word (statement.Sequence' p a q b) one e = let never : false ≡ true = one in cc
 param_word (statement.Parameter line name v) one e = let never : false ≡ true = one in cc
@@ -69,13 +69,13 @@ lacks_by p here never = by_begins (piece_begins p (Some here)) refl
     by_begins false e = ap not e
 
 -- parameters end before the statements
-before_statements : (scope : Scope) (b : Statement) (here rest : List Token) → is_branch b ≡ false → Obeys scope 32 b → after_statement b (Some here) ≡ Some rest
+before_statements : (scope : Scope) (b : SpmdStatement) (here rest : List Token) → is_branch b ≡ false → Obeys scope 32 b → after_statement b (Some here) ≡ Some rest
     → is_all_read rest ≡ true → lacks (piece.Word word.Param) here ≡ true
 before_statements scope b here rest plain obeys e ends =
     let f = flat_of scope 32 b (Some here) rest plain obeys e in
     lacks_by (piece.Word word.Param) here (by_row (flat b) f.0 f.1)
   where
-    by_row : (row : List Statement) → MayAll scope 32 row → behind_all row (Some here) ≡ Some rest → piece_begins (piece.Word word.Param) (Some here) ≡ true → ⊥
+    by_row : (row : List SpmdStatement) → MayAll scope 32 row → behind_all row (Some here) ≡ Some rest → piece_begins (piece.Word word.Param) (Some here) ≡ true → ⊥
     by_row [] may f starts = end_is_no_word word.Param here (ap (λ (z : Rest). piece_begins piece.TextEnd z) f ∙ all_read_begins rest ends) starts
     by_row (x ∷ xs) may f starts =
         let between = left_before (behind_all xs) (all_strict xs) (after_statement x (Some here)) rest f in
@@ -84,9 +84,9 @@ before_statements scope b here rest plain obeys e ends =
 -- ---- the whole text
 
 -- what a text is made of
-pub record IsWhole (names : List (Vec ℕ)) (s : Statement) (z : Rest) (rest : List Token) : Type 0 where
-  pub heads : Statement
-  pub all : Statement
+pub record IsWhole (names : List (Vec ℕ)) (s : SpmdStatement) (z : Rest) (rest : List Token) : Type 0 where
+  pub heads : SpmdStatement
+  pub all : SpmdStatement
   pub obey : ObeyParameters [] heads
   pub obeys : Obeys (behind_parameters names heads) 32 all
   pub plain : is_branch all ≡ false
@@ -96,7 +96,7 @@ pub record IsWhole (names : List (Vec ℕ)) (s : Statement) (z : Rest) (rest : L
   pub first : after_statement heads (Some before) ≡ Some between
   pub second : after_statement all (Some between) ≡ Some rest
 
-is_whole : (names : List (Vec ℕ)) (s : Statement) (z : Rest) (rest : List Token) → ObeysText names s → after_statement s z ≡ Some rest → IsWhole names s z rest
+is_whole : (names : List (Vec ℕ)) (s : SpmdStatement) (z : Rest) (rest : List Token) → ObeysText names s → after_statement s z ≡ Some rest → IsWhole names s z rest
 is_whole names (statement.Sequence' p a q b) z rest obeys e =
     let o = only_left (not (is_branch a) && not (is_branch b)) (after_statement b (after_statement a z)) rest e in
     let two = left_before (after_statement b) (statement_strict b) (after_statement a z) rest o.1 in
@@ -115,7 +115,7 @@ is_whole names (statement.Sequence' p a q b) z rest obeys e =
     }
 is_whole names s z rest obeys e = absurd obeys
 
-pub text_read : {old headed held stated ended new : Parser} {p : Policy} {heads all made : Statement}
+pub text_read : {old headed held stated ended new : Parser} {p : SpmdPolicy} {heads all made : SpmdStatement}
     → old.in_parameter ≡ false → old.parameters.items ≡ [] → old.loops.items ≡ []
     → HasRead heading_part old headed p → ReadsParameters headed held heads → HasRead (statements_part (scope_of held) 32) held stated all
     → Goes stated ended → (ended.fault ≡ None → (ended ≡ stated) × (is_all_read stated.rest.now ≡ true)) → (is_all_read stated.rest.now ≡ true → ended ≡ stated)
@@ -134,14 +134,14 @@ text_read {old} {headed} {held} {stated} {ended} {new} {p} {heads} {all} {made} 
         (two.goes.parameters sound ∙ ap (λ (l : List ℕ). l ++ parameters_of heads) (one.goes.parameters ∙ unnamed))
         ∙ ap (λ (n : List ℕ). record { in_parameter = false; names = old.names.now; parameters = parameters_of heads; loops = n }) (two.goes.loops ∙ (one.goes.loops ∙ outside))))
 
-    scope_alike : (a : Statement) → parameters_of heads ≡ parameters_of a → behind_parameters old.names.now heads ≡ behind_parameters old.names.now a
+    scope_alike : (a : SpmdStatement) → parameters_of heads ≡ parameters_of a → behind_parameters old.names.now heads ≡ behind_parameters old.names.now a
     scope_alike a same = ap (λ (n : List ℕ). record { in_parameter = false; names = old.names.now; parameters = n; loops = [] }) same
 
     at_end : (rest : List Token) → is_all_read rest ≡ true → StandsBefore stated rest → Finds new rest (Unit {0})
     at_end rest ends there =
         finds_made makes (still_found (fits (ap is_all_read there.left ∙ ends)) (inr (there, tt)))
 
-    behind_heads : (names : List (Vec ℕ)) (s : Statement) (z : Rest) (rest : List Token) → names ≡ old.names.now → (w : IsWhole names s z rest) → is_all_read rest ≡ true
+    behind_heads : (names : List (Vec ℕ)) (s : SpmdStatement) (z : Rest) (rest : List Token) → names ≡ old.names.now → (w : IsWhole names s z rest) → is_all_read rest ≡ true
         → StandsBefore held w.between → parameters_of heads ≡ parameters_of w.heads → Finds new rest (Unit {0})
     behind_heads names s z rest named w ends there same =
         found_then stated new rest rest (Unit {0}) (Unit {0})
@@ -156,7 +156,7 @@ text_read {old} {headed} {held} {stated} {ended} {new} {p} {heads} {all} {made} 
         sticks : (why : _) → stated.fault ≡ Some why → new.fault ≡ Some why
         sticks why e = (made_goes makes).sticks why (goes.sticks why e)
 
-    finds : (q : Policy) (s : Statement) (rest : List Token) → old.fault ≡ None → after_statement s (heading_part.behind q (Some old.rest.now)) ≡ Some rest → ObeysText old.names.now s
+    finds : (q : SpmdPolicy) (s : SpmdStatement) (rest : List Token) → old.fault ≡ None → after_statement s (heading_part.behind q (Some old.rest.now)) ≡ Some rest → ObeysText old.names.now s
         → is_all_read rest ≡ true → Finds new rest (Unit {0})
     finds q s rest sound e may ends = by_whole (is_whole old.names.now s (heading_part.behind q (Some old.rest.now)) rest may e)
       where
@@ -192,7 +192,7 @@ text_read {old} {headed} {held} {stated} {ended} {new} {p} {heads} {all} {made} 
         let m = (made_sound makes sound).1 in
         subst (ObeysText old.names.now) (sym m.is) (
           subst (ObeyParameters []) (sym m.first_holds) (obey sound),
-          subst (λ (v : Statement). Obeys (behind_parameters old.names.now v) 32 m.second.value) (sym m.first_holds)
+          subst (λ (v : SpmdStatement). Obeys (behind_parameters old.names.now v) 32 m.second.value) (sym m.first_holds)
               (subst (Obeys (behind_parameters old.names.now heads) 32) (sym m.second_holds)
               (subst (λ (k : Scope). Obeys k 32 all) (scope_so (held_sound sound)) (three.may (stated_sound sound)).obeys)),
         )
@@ -203,9 +203,9 @@ text_read {old} {headed} {held} {stated} {ended} {new} {p} {heads} {all} {made} 
         let begun : Rest = heading_part.behind p (Some old.rest.now) in
         let same = (sound_is (ended_sound sound)).0 in
         let plain = both_true (not (is_branch heads)) (not (is_branch all)) (ap not (parameters_plain [] heads (obey sound))) (ap not (three.may (stated_sound sound)).plain) in
-        ap (λ (v : Statement). after_statement v begun) m.1.is
-        ∙ (ap (λ (v : Statement). only (not (is_branch v) && not (is_branch m.1.second.value)) (after_statement m.1.second.value (after_statement v begun))) m.1.first_holds
-        ∙ (ap (λ (v : Statement). only (not (is_branch heads) && not (is_branch v)) (after_statement v (after_statement heads begun))) m.1.second_holds
+        ap (λ (v : SpmdStatement). after_statement v begun) m.1.is
+        ∙ (ap (λ (v : SpmdStatement). only (not (is_branch v) && not (is_branch m.1.second.value)) (after_statement m.1.second.value (after_statement v begun))) m.1.first_holds
+        ∙ (ap (λ (v : SpmdStatement). only (not (is_branch heads) && not (is_branch v)) (after_statement v (after_statement heads begun))) m.1.second_holds
         ∙ (ap (λ (k : Bool). only k (after_statement all (after_statement heads begun))) plain
         ∙ (ap (λ (y : Rest). after_statement all (after_statement heads y)) (one.stands (headed_sound sound))
         ∙ (ap (after_statement all) (two.meets.stands (held_sound sound))

@@ -1,19 +1,19 @@
 -- Which pieces are a text that can be read, and which line is the first that no text has.
 use Rattle.std.specs.Prelude.{◌≡◌, ℕ, true, List, [], ◌∷◌, ◌++◌, Option, Some, None, slice_get}
 use Rattle.std.specs.Global.{Vec}
-use Rattle.spmd_tree.specs.declared.tree.Statement.{Statement}
+use Rattle.spmd_tree.specs.declared.tree.SpmdStatement.{SpmdStatement}
 use Rattle.spmd_text.specs.declared.piece.Piece.{Piece}
 use Rattle.spmd_text.specs.declared.piece.Piece.TheVariants as piece
 use Rattle.spmd_text.specs.declared.piece.Token.{Token}
-use Rattle.spmd_text.specs.declared.reading.Policy.{Policy}
+use Rattle.spmd_text.specs.declared.reading.SpmdPolicy.{SpmdPolicy}
 use Rattle.spmd_text.specs.Statements.{line_of_first_piece}
 use Rattle.spmd_text.specs.Programs.{SaysProgram}
 use Rattle.spmd_text.specs.Lines.{are_lines, is_line}
 
 -- some tree is written as these pieces, and keeps the rules and limits
 pub record AreReadablePieces (names : List (Vec ℕ)) (tokens : List Token) : Type 0 where
-  pub policy : Policy
-  pub program : Statement
+  pub policy : SpmdPolicy
+  pub program : SpmdStatement
   pub says : SaysProgram names tokens policy program
 
 abbrev pub letters_if_there : Option (Vec ℕ) → Option (List ℕ)

@@ -9,8 +9,8 @@ use Rattle.spmd_tree.specs.declared.tree.Labels.{Labels}
 use Rattle.spmd_tree.specs.declared.tree.Labels.TheVariants.{Last, More'}
 use Rattle.spmd_tree.specs.declared.tree.Arguments.{Arguments}
 use Rattle.spmd_tree.specs.declared.tree.Arguments.TheVariants as call
-use Rattle.spmd_tree.specs.declared.tree.Statement.{Statement}
-use Rattle.spmd_tree.specs.declared.tree.Statement.TheVariants as statement
+use Rattle.spmd_tree.specs.declared.tree.SpmdStatement.{SpmdStatement}
+use Rattle.spmd_tree.specs.declared.tree.SpmdStatement.TheVariants as statement
 
 abbrev pub is_digit_byte : ℕ → Bool
 is_digit_byte c = nat_le 48 c && nat_le c 57
@@ -66,7 +66,7 @@ labels_fit names (Last f) = label_fits names f
 labels_fit names (More' f p others) = label_fits names f && labels_fit names others
 
 -- each label of the text is one
-abbrev pub all_fit : List (Vec ℕ) → Statement → Bool
+abbrev pub all_fit : List (Vec ℕ) → SpmdStatement → Bool
 all_fit names (statement.Sequence' p a q b) = all_fit names a && all_fit names b
 all_fit names (statement.When' line chained c p a q b) = all_fit names a && all_fit names b
 all_fit names (statement.Otherwise' p a) = all_fit names a

@@ -3,10 +3,10 @@
 -- begin with it, or none were given. What a function is given stands before it: a label with an
 -- index is a name, then what `after_index` says.
 use Rattle.std.specs.Prelude.{ℕ, ℤ, pos, int_le, Bool, true, false, ◌&&◌, ◌||◌, not, nat_eq, nat_le, List, [], ◌∷◌, Option, Some, None, if◌then◌else◌}
-use Rattle.spmd_tree.specs.declared.tree.Mode.{Mode}
-use Rattle.spmd_tree.specs.declared.tree.Mode.TheVariants.{Standard, Synchronous, Buffered}
-use Rattle.spmd_tree.specs.declared.tree.Kind.{Kind}
-use Rattle.spmd_tree.specs.declared.tree.Kind.TheVariants as kind
+use Rattle.spmd_tree.specs.declared.tree.SendMode.{SendMode}
+use Rattle.spmd_tree.specs.declared.tree.SendMode.TheVariants.{Standard, Synchronous, Buffered}
+use Rattle.spmd_tree.specs.declared.tree.CollectiveKind.{CollectiveKind}
+use Rattle.spmd_tree.specs.declared.tree.CollectiveKind.TheVariants as kind
 use Rattle.spmd_tree.specs.declared.tree.Operator.{Operator}
 use Rattle.spmd_tree.specs.declared.tree.Operator.TheVariants as operator
 use Rattle.spmd_tree.specs.declared.tree.Comparison.{Comparison}
@@ -19,10 +19,10 @@ use Rattle.spmd_tree.specs.declared.tree.Labels.{Labels}
 use Rattle.spmd_tree.specs.declared.tree.Labels.TheVariants.{Last, More'}
 use Rattle.spmd_tree.specs.declared.tree.Arguments.{Arguments}
 use Rattle.spmd_tree.specs.declared.tree.Arguments.TheVariants as call
-use Rattle.spmd_tree.specs.declared.tree.Statement.{Statement}
-use Rattle.spmd_tree.specs.declared.tree.Statement.TheVariants as statement
-use Rattle.spmd_text.specs.declared.reading.Policy.{Policy}
-use Rattle.spmd_text.specs.declared.reading.Policy.TheVariants as policy
+use Rattle.spmd_tree.specs.declared.tree.SpmdStatement.{SpmdStatement}
+use Rattle.spmd_tree.specs.declared.tree.SpmdStatement.TheVariants as statement
+use Rattle.spmd_text.specs.declared.reading.SpmdPolicy.{SpmdPolicy}
+use Rattle.spmd_text.specs.declared.reading.SpmdPolicy.TheVariants as policy
 use Rattle.spmd_text.specs.declared.piece.Word.{Word}
 use Rattle.spmd_text.specs.declared.piece.Word.TheVariants as word
 use Rattle.spmd_text.specs.declared.piece.Piece.{Piece}
@@ -209,7 +209,7 @@ after_group None rest = rest
 after_group (Some g) rest =
     after_optional (piece.Word word.Step) g.step (after_value g.last (after_piece (piece.Word word.To) (after_value g.first (after_piece (piece.Word word.Among) rest))))
 
-abbrev pub word_of_send : Mode → Option LabelForm → Word
+abbrev pub word_of_send : SendMode → Option LabelForm → Word
 word_of_send Standard None = word.Send
 word_of_send Standard (Some f) = word.Isend
 word_of_send Synchronous None = word.Ssend
@@ -225,7 +225,7 @@ abbrev pub matched_word : Option LabelForm → Word
 matched_word None = word.Mrecv
 matched_word (Some f) = word.Imrecv
 
-abbrev pub kind_word : Kind → Word
+abbrev pub kind_word : CollectiveKind → Word
 kind_word kind.Barrier = word.Barrier
 kind_word kind.Broadcast = word.Bcast
 kind_word kind.Reduce = word.Reduce
@@ -236,7 +236,7 @@ kind_word kind.AllGather = word.Allgather
 kind_word kind.AllToAll = word.Alltoall
 kind_word kind.Scan = word.Scan
 
-abbrev pub is_rooted : Kind → Bool
+abbrev pub is_rooted : CollectiveKind → Bool
 is_rooted kind.Broadcast = true
 is_rooted kind.Reduce = true
 is_rooted kind.Gather = true
@@ -280,17 +280,17 @@ after_labels (More' f p others) rest = after_labels others (after_piece piece.Co
 -- ---- statements
 
 -- a part that stands behind the statements of an `if`: an `else` or an `elif`
-abbrev pub is_branch : Statement → Bool
+abbrev pub is_branch : SpmdStatement → Bool
 is_branch (statement.Otherwise' p a) = true
 is_branch (statement.When' line chained c p a q b) = chained
 is_branch _ = false
 
-abbrev pub is_nothing : Statement → Bool
+abbrev pub is_nothing : SpmdStatement → Bool
 is_nothing statement.Nothing = true
 is_nothing _ = false
 
 -- what may stand behind the statements of an `if`
-unfoldable pub is_tail : Statement → Bool
+unfoldable pub is_tail : SpmdStatement → Bool
 is_tail s = is_branch s || is_nothing s
 
 -- a step of 1 may be left out
@@ -329,7 +329,7 @@ after_head line chained c rest = after_piece piece.LineEnd (after_condition c (a
 abbrev pub after_span : Expression → Expression → ℤ → Rest → Rest
 after_span first last step rest = after_piece piece.LineEnd (after_gap step (after_value last (after_piece (piece.Word word.To) (after_value first rest))))
 
-abbrev pub after_statement : Statement → Rest → Rest
+abbrev pub after_statement : SpmdStatement → Rest → Rest
 after_statement statement.Nothing rest = rest
 after_statement (statement.Sequence' p a q b) rest = only (not (is_branch a) && not (is_branch b)) (after_statement b (after_statement a rest))
 after_statement (statement.Parameter line name e) rest = after_parameter line name e rest
@@ -347,14 +347,14 @@ after_statement (statement.Unreached line) rest = after_piece piece.LineEnd (aft
 -- ---- the whole text
 
 -- parameters alone
-abbrev pub are_parameters : Statement → Bool
+abbrev pub are_parameters : SpmdStatement → Bool
 are_parameters statement.Nothing = true
 are_parameters (statement.Sequence' p a q b) = are_parameters a && are_parameters b
 are_parameters (statement.Parameter line name e) = true
 are_parameters _ = false
 
 -- no parameter
-abbrev pub has_none : Statement → Bool
+abbrev pub has_none : SpmdStatement → Bool
 has_none (statement.Sequence' p a q b) = has_none a && has_none b
 has_none (statement.Parameter line name e) = false
 has_none (statement.When' line chained c p a q b) = has_none a && has_none b
@@ -363,26 +363,26 @@ has_none (statement.Repeat' line name first last step p a) = has_none a
 has_none _ = true
 
 -- parameters stand before all else
-abbrev pub is_ordered : Statement → Bool
+abbrev pub is_ordered : SpmdStatement → Bool
 is_ordered (statement.Sequence' p a q b) = are_parameters a && has_none b
 is_ordered _ = false
 
-abbrev pub word_of_policy : Policy → Word
+abbrev pub word_of_policy : SpmdPolicy → Word
 word_of_policy policy.Any = word.Any
 word_of_policy policy.Never = word.Never
 word_of_policy policy.Always = word.Always
 
 -- the policy `any` may be left out
-abbrev pub is_any : Policy → Bool
+abbrev pub is_any : SpmdPolicy → Bool
 is_any policy.Any = true
 is_any _ = false
 
-abbrev pub after_policy : Policy → Rest → Rest
+abbrev pub after_policy : SpmdPolicy → Rest → Rest
 after_policy p rest =
     if piece_begins (piece.Word word.Policy) rest
     then after_piece piece.LineEnd (after_piece (piece.Word (word_of_policy p)) (after_piece (piece.Word word.Policy) rest))
     else only (is_any p) rest
 
-abbrev pub after_text : Policy → Statement → Rest → Rest
+abbrev pub after_text : SpmdPolicy → SpmdStatement → Rest → Rest
 after_text p s rest =
     only (is_ordered s) (after_piece piece.TextEnd (after_statement s (after_policy p (after_piece piece.LineEnd (after_piece (piece.Word word.Spmd) rest)))))

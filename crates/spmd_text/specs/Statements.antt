@@ -2,8 +2,8 @@
 use Rattle.std.specs.Prelude.{◌≡◌, ℕ, ◌-◌, ◌≤◌, Bool, true, ◌&&◌, not, nat_eq, List, [], ◌∷◌, ◌++◌}
 use Rattle.std.specs.List.{list_any}
 use Rattle.std.specs.Global.{Vec}
-use Rattle.spmd_tree.specs.declared.tree.Statement.{Statement, Sequence, Otherwise, When, Repeat}
-use Rattle.spmd_tree.specs.declared.tree.Statement.TheVariants as statement
+use Rattle.spmd_tree.specs.declared.tree.SpmdStatement.{SpmdStatement, Sequence, Otherwise, When, Repeat}
+use Rattle.spmd_tree.specs.declared.tree.SpmdStatement.TheVariants as statement
 use Rattle.spmd_text.specs.declared.piece.Token.{Token}
 use Rattle.spmd_text.specs.Limits.{IsTreeWithin}
 use Rattle.spmd_text.specs.Rules.{MayCall, MayLabels, count_labels}
@@ -39,7 +39,7 @@ pub record IsLoopStep (step : ℕ) : Type 0 where
 
 -- The statement keeps the rules and limits: at most so many blocks stand within one another, and no
 -- parameter stands among them.
-abbrev pub Obeys : Scope → ℕ → Statement → Type 0
+abbrev pub Obeys : Scope → ℕ → SpmdStatement → Type 0
 Obeys scope depth statement.Nothing = Unit {0}
 Obeys scope depth (statement.Sequence' p a q b) = Obeys scope depth a × Obeys scope depth b
 Obeys scope depth (statement.Parameter line name e) = ⊥

@@ -1,6 +1,6 @@
 -- What a text says.
 use Rattle.std.specs.Prelude.{◌≡◌, ◌⊎◌, ℕ, ◌<◌, ◌≤◌, Bool, true, false, List, [], length, map, Some, Ok, Err, if◌then◌else◌}
-use Rattle.spmd_text.specs.declared.reading.Text.{Text}
+use Rattle.spmd_text.specs.declared.reading.SpmdText.{SpmdText}
 use Rattle.spmd_text.specs.declared.fault.ParseFault.{ParseFault}
 use Rattle.spmd_text.specs.declared.fault.ParseReason.{ParseReason}
 use Rattle.spmd_text.specs.declared.fault.ParseReason.TheVariants as reason
@@ -16,7 +16,7 @@ use Rattle.spmd_text.specs.Programs.{ObeysText, parameters_of}
 -- The bytes are at most 65,536. They are cut into pieces, and the text is written as these pieces
 -- and no others; its names are those that stand in them, those of requests and handles are spelled
 -- as they have to be, it keeps the rules and limits, and its parameters are those that are written.
-pub record IsSpmdText (text : Text) (bytes : List ℕ) : Type 0 where
+pub record IsSpmdText (text : SpmdText) (bytes : List ℕ) : Type 0 where
   pub small : length bytes ≤ 65536
   pub state : Cutting
   pub cut : pieces_of bytes ≡ Ok state
@@ -48,7 +48,7 @@ HasTextFault bytes Memory = Unit {0}
 HasTextFault bytes TooLarge = 65536 < length bytes
 HasTextFault bytes (Pieces fault) = (length bytes ≤ 65536) × (pieces_of bytes ≡ Err fault)
 HasTextFault bytes (Grammar fault) =
-    (length bytes ≤ 65536) × HasFirstFault bytes fault.line × (is_memory_reason fault.reason ≡ false) × ((text : Text) → IsSpmdText text bytes → ⊥)
+    (length bytes ≤ 65536) × HasFirstFault bytes fault.line × (is_memory_reason fault.reason ≡ false) × ((text : SpmdText) → IsSpmdText text bytes → ⊥)
 
 -- what is told of a text that has pieces and was not read: its fault, or want of memory as that
 abbrev pub grammar_fault : ParseFault → TextFault
@@ -58,4 +58,4 @@ grammar_fault fault = if is_memory_reason fault.reason then Memory else Grammar 
 -- is told but want of memory.
 abbrev pub PieceFaultsAreTold : Type 0
 PieceFaultsAreTold = (bytes : List ℕ) (fault : ParseFault) → length bytes ≤ 65536 → pieces_of bytes ≡ Err fault
-    → ((text : Text) → IsSpmdText text bytes → ⊥) × ((e : TextFault) → HasTextFault bytes e → (e ≡ Memory) ⊎ (e ≡ Pieces fault))
+    → ((text : SpmdText) → IsSpmdText text bytes → ⊥) × ((e : TextFault) → HasTextFault bytes e → (e ≡ Memory) ⊎ (e ≡ Pieces fault))

@@ -5,7 +5,7 @@
 //! of a branch or loop, `else` or `end` begins. It stays as it is once something is wrong.
 
 ghost use Rattle.std.specs.Prelude.{[], ◌∷◌, ◌≡◌, ◌++◌, ◌<◌, ℕ, IsTrue, List, None, Some, false, length, true};
-ghost use Rattle.spmd_tree.specs.declared.tree.Statement.{Statement};
+ghost use Rattle.spmd_tree.specs.declared.tree.SpmdStatement.{SpmdStatement};
 ghost use Rattle.spmd_text.specs.parts.Parts.{HasRead};
 ghost use Rattle.spmd_text.specs.parts.Programs.{Meets, ReadsParameters, is_all_read, text_part};
 ghost use Rattle.spmd_text.specs.parts.Reading.{Goes, next};
@@ -21,8 +21,8 @@ use crate::keeping::{Made, keep, refuse};
 use crate::lines::{Span, heading_line, parameter, policy_line, simple, span_at, variable};
 use crate::parser::Parser;
 use crate::piece::{Piece, Token, Word};
-use crate::reading::Policy;
-use spmd_tree::{Expression, Statement};
+use crate::reading::SpmdPolicy;
+use spmd_tree::{Expression, SpmdStatement};
 
 /// A statement, and then another one.
 fn in_turn(parser: &mut Parser<'_>, a: Made, b: Made) -> Made
@@ -34,7 +34,7 @@ fn in_turn(parser: &mut Parser<'_>, a: Made, b: Made) -> Made
     let Some(b) = b else {
         return refuse(parser, ParseReason::Memory);
     };
-    keep(parser, Statement::Sequence(a, b))
+    keep(parser, SpmdStatement::Sequence(a, b))
 }
 
 /// The last statements of the list, so many of them, one after another: as a tree that is no
@@ -45,7 +45,7 @@ fn sequence(parser: &mut Parser<'_>, list: &mut Vec<Made>, count: usize) -> Made
         MakesOrLacksMemory parser.old parser.new (flat (held result) ≡ flat_all (held_all popped)) }
 {
     if count == 0 {
-        return keep(parser, Statement::Nothing);
+        return keep(parser, SpmdStatement::Nothing);
     }
     if count == 1 {
         return match list.pop() {
@@ -94,7 +94,7 @@ fn when(
     let Some(no) = no else {
         return refuse(parser, ParseReason::Memory);
     };
-    let statement = Statement::When {
+    let statement = SpmdStatement::When {
         line,
         chained,
         condition,
@@ -111,7 +111,7 @@ fn otherwise(parser: &mut Parser<'_>, statements: Made) -> Made
     let Some(statements) = statements else {
         return refuse(parser, ParseReason::Memory);
     };
-    keep(parser, Statement::Otherwise(statements))
+    keep(parser, SpmdStatement::Otherwise(statements))
 }
 
 /// The statement that a loop is.
@@ -122,7 +122,7 @@ fn repeat(parser: &mut Parser<'_>, line: u32, name: u32, span: Span, body: Made)
         return refuse(parser, ParseReason::Memory);
     };
     let Span { first, last, step } = span;
-    let statement = Statement::Repeat {
+    let statement = SpmdStatement::Repeat {
         line,
         name,
         first,
@@ -348,7 +348,7 @@ fn tail(parser: &mut Parser<'_>, at: &mut u32, depth: u32) -> Made
     if parser.take(Piece::Word(Word::Else)) {
         return after_else(parser, at, depth);
     }
-    keep(parser, Statement::Nothing)
+    keep(parser, SpmdStatement::Nothing)
 }
 
 /// A statement after its first word.
@@ -411,7 +411,7 @@ fn statements(parser: &mut Parser<'_>, at: &mut u32, depth: u32) -> Made
 }
 
 /// The heading, and the line of the policy.
-fn heading(parser: &mut Parser<'_>, at: &mut u32) -> Policy
+fn heading(parser: &mut Parser<'_>, at: &mut u32) -> SpmdPolicy
     ensures reads { HasRead heading_part parser.old parser.new result }
     ensures stays { (why : ParseReason) → parser.old.fault ≡ Some why → at.new ≡ at.old }
     ensures line { (depth : ℕ) → TellsLine (level_at Block.start parser.old depth ∷ []) parser.old parser.new parser.old.rest.now at.new }
@@ -442,7 +442,7 @@ fn parameters(parser: &mut Parser<'_>, at: &mut u32) -> Made
 }
 
 /// The whole text, up to its end. At most 32 blocks stand within one another in it.
-pub(crate) fn program(parser: &mut Parser<'_>, at: &mut u32) -> (Policy, Made)
+pub(crate) fn program(parser: &mut Parser<'_>, at: &mut u32) -> (SpmdPolicy, Made)
     ensures reads { parser.old.in_parameter ≡ false → parser.old.parameters.items ≡ [] →
         parser.old.loops.items ≡ [] →
         Meets (text_part parser.old.names.now) parser.old parser.new (result.0, held result.1) }

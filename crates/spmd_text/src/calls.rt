@@ -16,7 +16,7 @@ use crate::keeping::{Made, boxed, keep, refuse};
 use crate::labels::is_label;
 use crate::parser::Parser;
 use crate::piece::{Piece, Word};
-use spmd_tree::{Arguments, Expression, GroupForm, Kind, LabelForm, Labels, Mode, Statement};
+use spmd_tree::{Arguments, Expression, GroupForm, CollectiveKind, LabelForm, Labels, SendMode, SpmdStatement};
 use std::alloc::AllocError;
 
 /// Whether the name can be that of a request or handle.
@@ -114,7 +114,7 @@ fn request(parser: &mut Parser<'_>, started: bool) -> Option<LabelForm>
 }
 
 /// A send after its word: the request where it is started, the destination and the tag.
-fn send(parser: &mut Parser<'_>, mode: Mode, started: bool) -> Arguments
+fn send(parser: &mut Parser<'_>, mode: SendMode, started: bool) -> Arguments
     ensures { HasRead (arguments_part parser.old.in_parameter parser.old.names.now (Form.Send mode started)) parser.old parser.new result }
 {
     let request = request(parser, started);
@@ -206,7 +206,7 @@ fn root(parser: &mut Parser<'_>, rooted: bool) -> Option<Expression>
 }
 
 /// A collective call after its word: the root where it has one, and its group.
-fn collective(parser: &mut Parser<'_>, kind: Kind, rooted: bool) -> Arguments
+fn collective(parser: &mut Parser<'_>, kind: CollectiveKind, rooted: bool) -> Arguments
     ensures { rooted ≡ is_rooted kind →
         HasRead (arguments_part parser.old.in_parameter parser.old.names.now (Form.Collective kind rooted))
         parser.old parser.new result }
@@ -296,21 +296,21 @@ pub(crate) fn wait_all(parser: &mut Parser<'_>, line: u32) -> Made
 {
     let requests = labels(parser, 1023);
     parser.end_line();
-    keep(parser, Statement::WaitAll { line, requests })
+    keep(parser, SpmdStatement::WaitAll { line, requests })
 }
 
 /// What a word begins: a send, and whether it is started; a receive, or one on a handle, and
 /// whether it is started; a collective call, and whether it has a root; or another call.
 #[derive(Clone, Copy)]
 enum Form {
-    Send(Mode, bool),
+    Send(SendMode, bool),
     Receive(bool),
     Probe,
     MatchedProbe,
     MatchedReceive(bool),
     SendReceive,
     Wait,
-    Collective(Kind, bool),
+    Collective(CollectiveKind, bool),
 }
 
 /// What the word begins, where that is a call.
@@ -319,12 +319,12 @@ fn form_of(word: Word) -> Option<Form>
     ensures right { IfSome result HasRightRoot }
 {
     match word {
-        Word::Send => Some(Form::Send(Mode::Standard, false)),
-        Word::Ssend => Some(Form::Send(Mode::Synchronous, false)),
-        Word::Bsend => Some(Form::Send(Mode::Buffered, false)),
-        Word::Isend => Some(Form::Send(Mode::Standard, true)),
-        Word::Issend => Some(Form::Send(Mode::Synchronous, true)),
-        Word::Ibsend => Some(Form::Send(Mode::Buffered, true)),
+        Word::Send => Some(Form::Send(SendMode::Standard, false)),
+        Word::Ssend => Some(Form::Send(SendMode::Synchronous, false)),
+        Word::Bsend => Some(Form::Send(SendMode::Buffered, false)),
+        Word::Isend => Some(Form::Send(SendMode::Standard, true)),
+        Word::Issend => Some(Form::Send(SendMode::Synchronous, true)),
+        Word::Ibsend => Some(Form::Send(SendMode::Buffered, true)),
         Word::Recv => Some(Form::Receive(false)),
         Word::Irecv => Some(Form::Receive(true)),
         Word::Probe => Some(Form::Probe),
@@ -333,15 +333,15 @@ fn form_of(word: Word) -> Option<Form>
         Word::Imrecv => Some(Form::MatchedReceive(true)),
         Word::Sendrecv => Some(Form::SendReceive),
         Word::Wait => Some(Form::Wait),
-        Word::Barrier => Some(Form::Collective(Kind::Barrier, false)),
-        Word::Bcast => Some(Form::Collective(Kind::Broadcast, true)),
-        Word::Reduce => Some(Form::Collective(Kind::Reduce, true)),
-        Word::Allreduce => Some(Form::Collective(Kind::AllReduce, false)),
-        Word::Gather => Some(Form::Collective(Kind::Gather, true)),
-        Word::Scatter => Some(Form::Collective(Kind::Scatter, true)),
-        Word::Allgather => Some(Form::Collective(Kind::AllGather, false)),
-        Word::Alltoall => Some(Form::Collective(Kind::AllToAll, false)),
-        Word::Scan => Some(Form::Collective(Kind::Scan, false)),
+        Word::Barrier => Some(Form::Collective(CollectiveKind::Barrier, false)),
+        Word::Bcast => Some(Form::Collective(CollectiveKind::Broadcast, true)),
+        Word::Reduce => Some(Form::Collective(CollectiveKind::Reduce, true)),
+        Word::Allreduce => Some(Form::Collective(CollectiveKind::AllReduce, false)),
+        Word::Gather => Some(Form::Collective(CollectiveKind::Gather, true)),
+        Word::Scatter => Some(Form::Collective(CollectiveKind::Scatter, true)),
+        Word::Allgather => Some(Form::Collective(CollectiveKind::AllGather, false)),
+        Word::Alltoall => Some(Form::Collective(CollectiveKind::AllToAll, false)),
+        Word::Scan => Some(Form::Collective(CollectiveKind::Scan, false)),
         _ => None,
     }
 }
@@ -372,5 +372,5 @@ pub(crate) fn call(parser: &mut Parser<'_>, word: Word, line: u32) -> Made
     };
     let arguments = arguments(parser, form);
     parser.end_line();
-    keep(parser, Statement::Call { line, arguments })
+    keep(parser, SpmdStatement::Call { line, arguments })
 }

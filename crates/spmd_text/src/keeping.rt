@@ -6,12 +6,12 @@ ghost use Rattle.spmd_text.specs.parts.Statements.{MakesOrLacksMemory, held};
 
 use crate::fault::ParseReason;
 use crate::parser::Parser;
-use spmd_tree::Statement;
+use spmd_tree::SpmdStatement;
 use std::alloc::{AllocError, Global};
 
 /// A statement in memory of its own. Where something is wrong there may be none, and what is given
 /// is never used.
-pub(crate) type Made = Option<Box<Statement>>;
+pub(crate) type Made = Option<Box<SpmdStatement>>;
 
 /// A value in memory of its own.
 pub(crate) fn boxed<T: Drop>(alloc: Global, value: T) -> Result<Box<T>, AllocError>
@@ -29,7 +29,7 @@ pub(crate) fn refuse(parser: &mut Parser<'_>, reason: ParseReason) -> Made
 }
 
 /// The statement in memory of its own.
-pub(crate) fn keep(parser: &mut Parser<'_>, statement: Statement) -> Made
+pub(crate) fn keep(parser: &mut Parser<'_>, statement: SpmdStatement) -> Made
     ensures { MakesOrLacksMemory parser.old parser.new (held result ≡ statement) }
 {
     match boxed(parser.alloc, statement) {

@@ -23,4 +23,4 @@ pub use fault::{ParseFault, ParseReason, TextFault};
 pub use heading::is_spmd;
 pub use laws::piece_faults_are_told;
 pub use lexer::place_of;
-pub use reading::{Policy, Text, parse};
+pub use reading::{SpmdPolicy, SpmdText, parse};

@@ -13,8 +13,8 @@ use crate::fault::ParseReason;
 use crate::keeping::{Made, keep, refuse};
 use crate::parser::Parser;
 use crate::piece::{Piece, Word};
-use crate::reading::Policy;
-use spmd_tree::{Expression, Statement};
+use crate::reading::SpmdPolicy;
+use spmd_tree::{Expression, SpmdStatement};
 
 /// Whether the name is one of these.
 fn contains(places: &[u32], name: u32) -> bool
@@ -55,7 +55,7 @@ fn assign(parser: &mut Parser<'_>, line: u32) -> Made
     let name = variable(parser);
     let value = expression_at(parser);
     parser.end_line();
-    keep(parser, Statement::Assign { line, name, value })
+    keep(parser, SpmdStatement::Assign { line, name, value })
 }
 
 /// An `error` after its word, up to the end of its line.
@@ -63,7 +63,7 @@ fn unreached(parser: &mut Parser<'_>, line: u32) -> Made
     ensures { (depth : ℕ) → HasRead (begun_part (scope_of parser.old) depth line Word.Error) parser.old parser.new (held result) }
 {
     parser.end_line();
-    keep(parser, Statement::Unreached { line })
+    keep(parser, SpmdStatement::Unreached { line })
 }
 
 /// A statement of one line, after its first word.
@@ -76,7 +76,7 @@ pub(crate) fn simple(parser: &mut Parser<'_>, word: Word, line: u32) -> Made
         Word::Error => unreached(parser, line),
         Word::Waitall => wait_all(parser, line),
         Word::Param => refuse(parser, ParseReason::LateParameter),
-        Word::Policy => refuse(parser, ParseReason::LatePolicy),
+        Word::SpmdPolicy => refuse(parser, ParseReason::LatePolicy),
         _ => call(parser, word, line),
     }
 }
@@ -128,7 +128,7 @@ pub(crate) fn parameter(parser: &mut Parser<'_>, line: u32) -> Made
     parser.end_line();
     keep(
         parser,
-        Statement::Parameter {
+        SpmdStatement::Parameter {
             line,
             name,
             otherwise,
@@ -196,25 +196,25 @@ pub(crate) fn span_at(parser: &mut Parser<'_>) -> Span
 }
 
 /// The policy that the piece is.
-fn policy_of(piece: Piece) -> Option<Policy>
+fn policy_of(piece: Piece) -> Option<SpmdPolicy>
     ensures { result ≡ policy_of piece }
 {
     match piece {
-        Piece::Word(Word::Any) => Some(Policy::Any),
-        Piece::Word(Word::Never) => Some(Policy::Never),
-        Piece::Word(Word::Always) => Some(Policy::Always),
+        Piece::Word(Word::Any) => Some(SpmdPolicy::Any),
+        Piece::Word(Word::Never) => Some(SpmdPolicy::Never),
+        Piece::Word(Word::Always) => Some(SpmdPolicy::Always),
         _ => None,
     }
 }
 
 /// A policy.
-fn policy(parser: &mut Parser<'_>) -> Policy
+fn policy(parser: &mut Parser<'_>) -> SpmdPolicy
     ensures { HasRead policy_part parser.old parser.new result }
 {
     match policy_of(parser.piece()) {
         None => {
             parser.fail(ParseReason::NoPolicy);
-            Policy::Any
+            SpmdPolicy::Any
         }
         Some(policy) => {
             parser.step();
@@ -224,11 +224,11 @@ fn policy(parser: &mut Parser<'_>) -> Policy
 }
 
 /// The line of the policy, where there is one.
-pub(crate) fn policy_line(parser: &mut Parser<'_>) -> Policy
+pub(crate) fn policy_line(parser: &mut Parser<'_>) -> SpmdPolicy
     ensures { HasRead policy_line_part parser.old parser.new result }
 {
-    if !parser.take(Piece::Word(Word::Policy)) {
-        return Policy::Any;
+    if !parser.take(Piece::Word(Word::SpmdPolicy)) {
+        return SpmdPolicy::Any;
     }
     let policy = policy(parser);
     parser.end_line();

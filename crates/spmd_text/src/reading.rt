@@ -13,12 +13,12 @@ use crate::fault::{ParseFault, ParseReason, TextFault};
 use crate::keeping::Made;
 use crate::parser::Parser;
 use crate::piece::Pieces;
-use spmd_tree::Statement;
+use spmd_tree::SpmdStatement;
 use std::alloc::{AllocError, Global};
 
 /// Whether standard sends are buffered.
 #[derive(Clone, Copy)]
-pub enum Policy {
+pub enum SpmdPolicy {
     Any,
     Never,
     Always,
@@ -27,7 +27,7 @@ pub enum Policy {
 /// What was read of a text.
 #[derive(Drop)]
 struct Reading {
-    policy: Policy,
+    policy: SpmdPolicy,
     statements: Made,
     /// What is wrong first: the statements mean nothing then.
     fault: Option<ParseFault>,
@@ -35,9 +35,9 @@ struct Reading {
 
 /// An SPMD text that was read.
 #[derive(Drop)]
-pub struct Text {
-    pub policy: Policy,
-    pub program: Statement,
+pub struct SpmdText {
+    pub policy: SpmdPolicy,
+    pub program: SpmdStatement,
     /// The names of the text, in the order in which they first stand in it.
     pub names: Vec<Vec<u8>>,
     /// The places of the parameters' names, in their order.
@@ -84,15 +84,15 @@ fn read(alloc: Global, found: &Pieces) -> Reading
 }
 
 /// Adds the places of the names of the parameters in the statement.
-fn put_parameters(out: &mut Vec<u32>, statement: &Statement) -> Result<(), AllocError>
+fn put_parameters(out: &mut Vec<u32>, statement: &SpmdStatement) -> Result<(), AllocError>
     ensures { OnOk result (out.new.items ≡ out.old.items ++ parameters_of statement.now) }
 {
     match statement {
-        Statement::Sequence(a, b) => {
+        SpmdStatement::Sequence(a, b) => {
             put_parameters(out, a)?;
             put_parameters(out, b)
         }
-        Statement::Parameter { name, .. } => {
+        SpmdStatement::Parameter { name, .. } => {
             out.push(*name)?;
             Ok(())
         }
@@ -124,7 +124,7 @@ fn grammar_fault(fault: ParseFault) -> TextFault
 /// fault of the grammar is told, the text says nothing, and its line is the first that is wrong: no
 /// text that can be read has it behind the lines before it. A statement that goes on over several
 /// lines is told with the number of the first of them.
-pub fn parse(alloc: Global, bytes: &[u8]) -> Result<Text, TextFault>
+pub fn parse(alloc: Global, bytes: &[u8]) -> Result<SpmdText, TextFault>
     ensures text { IfOk result (λ text. IsSpmdText text bytes.now) }
     ensures fault { IfErr result (λ fault. HasTextFault bytes.now fault) }
 {
@@ -151,7 +151,7 @@ pub fn parse(alloc: Global, bytes: &[u8]) -> Result<Text, TextFault>
         Err(AllocError) => return Err(TextFault::Memory),
         Ok(()) => {}
     }
-    Ok(Text {
+    Ok(SpmdText {
         policy,
         program: Box::into_inner(statements),
         names: found.names,

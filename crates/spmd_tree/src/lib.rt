@@ -4,6 +4,6 @@
 mod tree;
 
 pub use tree::{
-    Arguments, Comparison, Expression, GroupForm, Kind, LabelForm, Labels, Mode, Operator,
-    Statement,
+    Arguments, Comparison, Expression, GroupForm, CollectiveKind, LabelForm, Labels, SendMode, Operator,
+    SpmdStatement,
 };

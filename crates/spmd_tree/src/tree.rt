@@ -6,7 +6,7 @@
 
 /// When a send completes (MPI 4.1, section 3.4). A ready send isn't told apart from a standard one.
 #[derive(Clone, Copy)]
-pub enum Mode {
+pub enum SendMode {
     Standard,
     Synchronous,
     Buffered,
@@ -87,7 +87,7 @@ pub enum Labels {
 
 /// A collective call (MPI 4.1, chapter 6).
 #[derive(Clone, Copy)]
-pub enum Kind {
+pub enum CollectiveKind {
     Barrier,
     Broadcast,
     Reduce,
@@ -114,7 +114,7 @@ pub struct GroupForm {
 pub enum Arguments {
     /// A send (MPI 4.1, sections 3.2.1, 3.4 and 3.7.2).
     Send {
-        mode: Mode,
+        mode: SendMode,
         request: Option<LabelForm>,
         destination: Expression,
         tag: Expression,
@@ -159,7 +159,7 @@ pub enum Arguments {
     },
     /// A collective call. It has a root where it is `Broadcast`, `Reduce`, `Gather` or `Scatter`.
     Collective {
-        kind: Kind,
+        kind: CollectiveKind,
         root: Option<Expression>,
         group: Option<GroupForm>,
         communicator: Option<Expression>,
@@ -168,10 +168,10 @@ pub enum Arguments {
 
 /// A statement, or several. Each but the first two and `Otherwise` has the line of its first word.
 #[derive(Drop)]
-pub enum Statement {
+pub enum SpmdStatement {
     Nothing,
     /// One after the other.
-    Sequence(Box<Statement>, Box<Statement>),
+    Sequence(Box<SpmdStatement>, Box<SpmdStatement>),
     /// A parameter, with the value that it has where no setting gives one.
     Parameter {
         line: u32,
@@ -190,11 +190,11 @@ pub enum Statement {
         line: u32,
         chained: bool,
         condition: Expression,
-        yes: Box<Statement>,
-        no: Box<Statement>,
+        yes: Box<SpmdStatement>,
+        no: Box<SpmdStatement>,
     },
     /// What stands after an `else`.
-    Otherwise(Box<Statement>),
+    Otherwise(Box<SpmdStatement>),
     /// `for`: the statements are done for the first value, and then for each a step above the one
     /// before, up to the last. A step is 1 to 2^32 - 1.
     Repeat {
@@ -203,7 +203,7 @@ pub enum Statement {
         first: Expression,
         last: Expression,
         step: u32,
-        body: Box<Statement>,
+        body: Box<SpmdStatement>,
     },
     Call {
         line: u32,

@@ -10,7 +10,7 @@ use clauses::Assignment;
 use cubes::{branching_variables, split};
 use encode::{Encoded, encode};
 use extract::schedule_of;
-use formula::{Event, Fact, Meaning};
+use formula::{RunEvent, Fact, Meaning};
 use formula_tables::Variables;
 use nonovertake::earlier;
 use std::alloc::Global;
@@ -128,15 +128,15 @@ impl Part for Fact {
 }
 
 /// The event that a line tells.
-fn event(line: &str, given: &mut Given) -> Event {
+fn event(line: &str, given: &mut Given) -> RunEvent {
     let (word, call) = cut(line);
     let call = place(call, given);
     match word {
-        "issue" => Event::Issue(call),
-        "match" => Event::Match(call),
+        "issue" => RunEvent::Issue(call),
+        "match" => RunEvent::Match(call),
         _ => {
             given.refuse("not made: no event");
-            Event::Issue(call)
+            RunEvent::Issue(call)
         }
     }
 }

@@ -14,7 +14,7 @@ use refutations::{LineFault, MakeLineFault, TreeFault};
 use std::alloc::{AllocError, Global};
 use std::thread::Threads;
 use std::{mem, str};
-use trees::SplitFault;
+use trees::LeafSplitFault;
 
 pub fn judge<R: Threads + Sync>(
     rt: &R,
@@ -95,7 +95,7 @@ fn put_fault(words: &str, given: &mut Given) {
         "MakeLineFault::Memory" => given.show(MakeLineFault::Memory),
         "TrimFault::Memory" => given.show(TrimFault::Memory),
         "CubeFault::Memory" => given.show(CubeFault::Memory),
-        "SplitFault::Memory" => given.show(SplitFault::Memory),
+        "SplitFault::Memory" => given.show(LeafSplitFault::Memory),
         "size_of Lit" => given.show(size_of::<Lit>()),
         _ => given.refuse("not made: no such fault"),
     }

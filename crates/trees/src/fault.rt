@@ -4,7 +4,7 @@ use thiserror::Error;
 
 /// Why a leaf isn't split.
 #[derive(Clone, Copy, Debug, PartialEq, Eq, Error)]
-pub enum SplitFault {
+pub enum LeafSplitFault {
     /// Memory ran out.
     #[error("memory")]
     Memory,

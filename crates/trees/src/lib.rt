@@ -9,9 +9,9 @@ mod laws;
 mod proof_tree;
 mod tree;
 
-pub use fault::SplitFault;
+pub use fault::LeafSplitFault;
 pub use laws::{
     closed_leaves_refute, one_leaf_for_each_assignment, paths_are_within, splits_are_sound,
     splits_change_one_leaf,
 };
-pub use tree::{GREATEST_DEPTH, MOST_NODES, NodeKind, Tree};
+pub use tree::{LONGEST_PATH, MOST_TREE_NODES, NodeKind, Tree};

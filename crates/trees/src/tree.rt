@@ -4,16 +4,16 @@ ghost use Rattle.std.specs.Prelude.{◌≡◌, ◌≤◌, ◌<◌, ◌+◌, ◌�
 ghost use Rattle.refutations.specs.Trees.{branch};
 ghost use Rattle.trees.specs.Trees.{leaf_with, path_at, kind_at, IsLeaf, split_at, HasNoRoom, IsGrownTree};
 
-use crate::fault::SplitFault;
+use crate::fault::LeafSplitFault;
 use clauses::{LARGEST_VARIABLE, Lit};
 use std::alloc::{AllocError, Global};
 use std::marker::Model;
 
 /// The most nodes that a tree has.
-pub const MOST_NODES: usize = 65_536;
+pub const MOST_TREE_NODES: usize = 65_536;
 
 /// The most literals that a path has.
-pub const GREATEST_DEPTH: usize = 64;
+pub const LONGEST_PATH: usize = 64;
 
 /// What a node is.
 #[derive(Clone, Copy, Debug, PartialEq, Eq)]
@@ -47,7 +47,7 @@ impl Model for Node {
 
 /// A tree whose splits cut the assignments into cubes, one for each leaf: the assignments under
 /// which the literals from the leaf up to the root are true. Nodes are numbered from 0, the root.
-/// It has at most [`MOST_NODES`] nodes, and each path has at most [`GREATEST_DEPTH`] literals.
+/// It has at most [`MOST_TREE_NODES`] nodes, and each path has at most [`LONGEST_PATH`] literals.
 #[derive(Drop)]
 pub struct Tree {
     variables: u32,
@@ -68,7 +68,7 @@ impl Model for Tree {
 fn branch(alloc: Global, variable: u32, value: bool, path: &[Lit]) -> Result<Vec<Lit>, AllocError>
     requires from_one { 1 ≤ variable }
     requires most { variable ≤ LARGEST_VARIABLE }
-    requires short { length path.now ≤ GREATEST_DEPTH }
+    requires short { length path.now ≤ LONGEST_PATH }
     ensures { IfOk result (λ longer. longer.items ≡ branch variable value path.now) }
 {
     let Some(literal) = Lit::make(variable, value) else {
@@ -83,7 +83,7 @@ fn branch(alloc: Global, variable: u32, value: bool, path: &[Lit]) -> Result<Vec
 fn leaf_below(alloc: Global, node: &Node, variable: u32, value: bool) -> Result<Node, AllocError>
     requires from_one { 1 ≤ variable }
     requires most { variable ≤ LARGEST_VARIABLE }
-    requires short { length node.now.path ≤ GREATEST_DEPTH }
+    requires short { length node.now.path ≤ LONGEST_PATH }
     ensures { IfOk result (λ below. below ≡ leaf_with (branch variable value node.now.path)) }
 {
     let path = branch(alloc, variable, value, node.path.as_slice())?;
@@ -109,7 +109,7 @@ fn push_two(nodes: &mut Vec<Node>, first: Node, second: Node) -> Result<(), Allo
 }
 
 fn make_split(node: &mut Node, variable: u32, if_true: u32)
-    requires { if_true < MOST_NODES }
+    requires { if_true < MOST_TREE_NODES }
     ensures { node.new ≡ record { path = node.old.path; kind = NodeKind.Split variable if_true (if_true + 1) } }
 {
     node.kind = NodeKind::Split {
@@ -126,8 +126,8 @@ fn split_node(
     variable: u32,
 ) -> Result<(), AllocError>
     requires there { leaf < length nodes.old.items }
-    requires few { length nodes.old.items < MOST_NODES }
-    requires short { length (path_at nodes.old.items leaf) ≤ GREATEST_DEPTH }
+    requires few { length nodes.old.items < MOST_TREE_NODES }
+    requires short { length (path_at nodes.old.items leaf) ≤ LONGEST_PATH }
     requires from_one { 1 ≤ variable }
     requires most { variable ≤ LARGEST_VARIABLE }
     ensures ok { OnOk result (nodes.new.items ≡ split_at nodes.old.items leaf variable) }
@@ -167,7 +167,7 @@ impl Tree {
     pub fn len(&self) -> usize
         ensures same { result ≡ length self.now.nodes }
         ensures some { 1 ≤ result }
-        ensures few { result ≤ MOST_NODES }
+        ensures few { result ≤ MOST_TREE_NODES }
     {
         self.nodes.len()
     }
@@ -211,40 +211,40 @@ impl Tree {
         node.path.as_slice()
     }
 
-    /// Whether a split of the node would make more than [`MOST_NODES`] nodes or a path of more than
-    /// [`GREATEST_DEPTH`] literals.
+    /// Whether a split of the node would make more than [`MOST_TREE_NODES`] nodes or a path of more than
+    /// [`LONGEST_PATH`] literals.
     fn has_no_room(&self, leaf: u32) -> bool
         requires { leaf < length self.now.nodes }
         ensures { IsTrue result ↔ HasNoRoom self.now.nodes leaf }
     {
-        self.nodes.len() + 2 > MOST_NODES || self.path(leaf).len() + 1 > GREATEST_DEPTH
+        self.nodes.len() + 2 > MOST_TREE_NODES || self.path(leaf).len() + 1 > LONGEST_PATH
     }
 
     /// Splits a leaf on a variable. The two new leaves come to the end, first the one for true and
     /// then the one for false: answers their numbers. The only refusal beside want of memory is
-    /// [`SplitFault::TooMany`], exactly where there would be more than [`MOST_NODES`] nodes or a
-    /// path of more than [`GREATEST_DEPTH`] literals. At a refusal the tree is as it was.
+    /// [`LeafSplitFault::TooMany`], exactly where there would be more than [`MOST_TREE_NODES`] nodes or a
+    /// path of more than [`LONGEST_PATH`] literals. At a refusal the tree is as it was.
     pub fn split_leaf(
         &mut self,
         alloc: Global,
         leaf: u32,
         variable: u32,
-    ) -> Result<(u32, u32), SplitFault>
+    ) -> Result<(u32, u32), LeafSplitFault>
         requires leaf { IsLeaf self.old.nodes leaf }
         requires from_one { 1 ≤ variable }
         requires within { variable ≤ self.old.variables }
         ensures split { OnOk result (self.new ≡ record self.old { nodes = split_at self.old.nodes leaf variable }) }
         ensures numbers { IfOk result (λ below. below ≡ (length self.old.nodes, length self.old.nodes + 1)) }
-        ensures too_many { result ≡ Err SplitFault.TooMany ↔ HasNoRoom self.old.nodes leaf }
+        ensures too_many { result ≡ Err LeafSplitFault.TooMany ↔ HasNoRoom self.old.nodes leaf }
         ensures kept { OnErr result (self.new ≡ self.old) }
     {
         if self.has_no_room(leaf) {
-            return Err(SplitFault::TooMany);
+            return Err(LeafSplitFault::TooMany);
         }
         let count = self.nodes.len() as u32;
         match split_node(alloc, &mut self.nodes, leaf as usize, variable) {
             Ok(()) => Ok((count, count + 1)),
-            Err(AllocError) => Err(SplitFault::Memory),
+            Err(AllocError) => Err(LeafSplitFault::Memory),
         }
     }
 }

@@ -14,5 +14,5 @@ mod trims;
 mod unneeded;
 
 pub use laws::{trimmed_are_accepted, trimmed_are_needed};
-pub use trims::{TrimFault, trim};
+pub use trims::{RefutationTrimFault, trim};
 pub use unneeded::first_unneeded;

@@ -14,7 +14,7 @@ use thiserror::Error;
 
 /// Why no refutation was trimmed.
 #[derive(Clone, Copy, Debug, PartialEq, Eq, Error)]
-pub enum TrimFault {
+pub enum RefutationTrimFault {
     /// Memory ran out.
     #[error("memory")]
     Memory,
@@ -24,14 +24,14 @@ pub enum TrimFault {
     Number,
 }
 
-impl From<AllocError> for TrimFault {
+impl From<AllocError> for RefutationTrimFault {
     ghost use Rattle.std.specs.Prelude.{◌≡◌};
-    ghost use Rattle.trimming.specs.declared.trims.TrimFault.{TrimFault};
+    ghost use Rattle.trimming.specs.declared.trims.RefutationTrimFault.{RefutationTrimFault};
 
-    ghost from_gives = { λ _ fault. fault ≡ TrimFault.Memory };
+    ghost from_gives = { λ _ fault. fault ≡ RefutationTrimFault.Memory };
 
-    fn from(_error: AllocError) -> TrimFault {
-        TrimFault::Memory
+    fn from(_error: AllocError) -> RefutationTrimFault {
+        RefutationTrimFault::Memory
     }
 }
 
@@ -46,7 +46,7 @@ pub fn trim(
     clauses: u32,
     lines: &mut Vec<Line>,
     tree: &mut ProofTree,
-) -> Result<(), TrimFault>
+) -> Result<(), RefutationTrimFault>
     ensures lines { OnOk result (lines.new.items ≡ trimmed_lines clauses lines.old.items tree.old) }
     ensures tree { OnOk result (tree.new ≡ trimmed_nodes clauses lines.old.items tree.old) }
     ensures accepted { OnOk result ((f : Conjunction) → length f.clauses ≡ clauses →
@@ -54,12 +54,12 @@ pub fn trim(
     ensures needed { OnOk result (Needed clauses lines.new.items tree.new) }
     ensures same_lines { OnErr result (lines.new.items ≡ lines.old.items) }
     ensures same_tree { OnErr result (tree.new ≡ tree.old) }
-    ensures number { result ≡ Err TrimFault.Number → are_named clauses lines.old.items tree.old ≡ false }
+    ensures number { result ≡ Err RefutationTrimFault.Number → are_named clauses lines.old.items tree.old ≡ false }
     ensures number_only { are_named clauses lines.old.items tree.old ≡ false →
-        (result ≡ Err TrimFault.Number) ⊎ (result ≡ Err TrimFault.Memory) }
+        (result ≡ Err RefutationTrimFault.Number) ⊎ (result ≡ Err RefutationTrimFault.Memory) }
 {
     if !are_named(clauses, lines.as_slice(), tree.nodes()) {
-        return Err(TrimFault::Number);
+        return Err(RefutationTrimFault::Number);
     }
     let stays = needed_lines(alloc, clauses, lines.as_slice(), tree.nodes())?;
     let renumbering = Renumbering::new(alloc, clauses, stays)?;

@@ -1,19 +1,19 @@
 -- The messages of collective calls are apart.
 use Rattle.std.proofs.Common.{ℕ, ◌≤◌, Bool, true, false, Option, Some, None, List, [], ◌∷◌, ◌++◌, nat_eq}
 use Rattle.std.specs.List.{AllByRecursion}
-use Rattle.spmd_tree.specs.declared.tree.Mode.{Mode}
-use Rattle.spmd_tree.specs.declared.tree.Kind.TheVariants as kind
-use Rattle.unroll.specs.declared.call.Call.{Call}
+use Rattle.spmd_tree.specs.declared.tree.SendMode.{SendMode}
+use Rattle.spmd_tree.specs.declared.tree.CollectiveKind.TheVariants as kind
+use Rattle.unroll.specs.declared.call.UnrolledCall.{UnrolledCall}
 use Rattle.unroll.specs.declared.collective.Way.{Way}
 use Rattle.unroll.specs.Groups.{others, before, member_after}
 use Rattle.unroll.specs.Collectives.{sends, receives, meet, spread, collect, chain}
 use Rattle.unroll.specs.Apart.{IsApart, CollectivesAreApart}
 
-both_apart : (a b : List Call) → AllByRecursion IsApart a → AllByRecursion IsApart b → AllByRecursion IsApart (a ++ b)
+both_apart : (a b : List UnrolledCall) → AllByRecursion IsApart a → AllByRecursion IsApart b → AllByRecursion IsApart (a ++ b)
 both_apart [] b p q = q
 both_apart (x ∷ a) b p q = (p.0, both_apart a b p.1 q)
 
-sends_apart : (m : Mode) (tag c : ℕ) (ranks : List ℕ) → 128 ≤ c → AllByRecursion IsApart (sends m tag c ranks)
+sends_apart : (m : SendMode) (tag c : ℕ) (ranks : List ℕ) → 128 ≤ c → AllByRecursion IsApart (sends m tag c ranks)
 sends_apart m tag c [] le = tt
 sends_apart m tag c (r ∷ ranks) le = (le, sends_apart m tag c ranks le)
 

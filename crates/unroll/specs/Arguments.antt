@@ -1,16 +1,16 @@
 -- The arguments of a call, evaluated from left to right: the first thing that is wrong is told.
 use Rattle.std.specs.Prelude.{ℕ, ◌+◌, ◌-◌, ℤ, nat_eq, List, Option, Some, None, Result, Ok, Err, if◌then◌else◌}
 use Rattle.spmd_tree.specs.declared.tree.Expression.{Expression}
-use Rattle.spmd_tree.specs.declared.tree.Kind.{Kind}
+use Rattle.spmd_tree.specs.declared.tree.CollectiveKind.{CollectiveKind}
 use Rattle.spmd_tree.specs.declared.tree.LabelForm.{LabelForm}
-use Rattle.spmd_tree.specs.declared.tree.Mode.{Mode}
+use Rattle.spmd_tree.specs.declared.tree.SendMode.{SendMode}
 use Rattle.spmd_tree.specs.declared.tree.GroupForm.{GroupForm}
 use Rattle.spmd_tree.specs.declared.tree.Arguments.{Arguments}
 use Rattle.spmd_tree.specs.declared.tree.Arguments.TheVariants as form
 use Rattle.unroll.specs.declared.value.Value.{Value}
 use Rattle.unroll.specs.declared.value.Value.TheVariants.{Number, Null, Truth}
-use Rattle.unroll.specs.declared.value.Reason.{Reason}
-use Rattle.unroll.specs.declared.value.Reason.TheVariants as reason
+use Rattle.unroll.specs.declared.value.FaultReason.{FaultReason}
+use Rattle.unroll.specs.declared.value.FaultReason.TheVariants as reason
 use Rattle.unroll.specs.declared.call.Label.{Label}
 use Rattle.unroll.specs.declared.call.Group.{Group}
 use Rattle.unroll.specs.declared.arguments.Message.{Message}
@@ -22,12 +22,12 @@ use Rattle.unroll.specs.Expressions.{number_in, on_found, expression_value}
 
 -- what a part of a call is, on a rank of so many, where names have these values
 abbrev pub Scoped : Type 0 → Type 0
-Scoped A = ℕ → ℕ → List (Option Value) → Result A Reason
+Scoped A = ℕ → ℕ → List (Option Value) → Result A FaultReason
 
 abbrev pub scoped_number : Expression → Scoped ℤ
 scoped_number e rank size values = number_in (expression_value e rank size values)
 
-abbrev pub found : Option ℕ → Reason → Result ℕ Reason
+abbrev pub found : Option ℕ → FaultReason → Result ℕ FaultReason
 found (Some n) why = Ok n
 found None why = Err why
 
@@ -35,7 +35,7 @@ found None why = Err why
 abbrev pub tag_of : Expression → Scoped ℕ
 tag_of e rank size values = on_found (scoped_number e rank size values) (λ n. found (below n 32768) (reason.TagRange n))
 
-abbrev pub some : Result ℕ Reason → Result (Option ℕ) Reason
+abbrev pub some : Result ℕ FaultReason → Result (Option ℕ) FaultReason
 some r = on_found r (λ n. Ok (Some n))
 
 abbrev pub optional_tag : Option Expression → Scoped (Option ℕ)
@@ -48,7 +48,7 @@ scoped_communicator None rank size values = Ok 0
 scoped_communicator (Some e) rank size values = on_found (scoped_number e rank size values) (λ n. found (below n 128) (reason.CommunicatorRange n))
 
 -- a peer is null, or a rank
-abbrev pub peered : Value → ℕ → Result (Option ℕ) Reason
+abbrev pub peered : Value → ℕ → Result (Option ℕ) FaultReason
 peered Null size = Ok None
 peered (Number n) size = some (found (below n size) (reason.PeerRange n))
 peered (Truth t) size = Err reason.Kind
@@ -88,7 +88,7 @@ abbrev pub root_of : Option Expression → Scoped (Option ℕ)
 root_of None rank size values = Ok None
 root_of (Some e) rank size values = some (scoped_rank e rank size values)
 
-abbrev pub stepped : Option ℕ → ℤ → Result ℕ Reason
+abbrev pub stepped : Option ℕ → ℤ → Result ℕ FaultReason
 stepped None n = Err (reason.GroupStep n)
 stepped (Some k) n = if nat_eq k 0 then Err (reason.GroupStep n) else Ok k
 
@@ -103,7 +103,7 @@ group_of None rank size values = Ok (record { first = 0; last = size - 1; step =
 group_of (Some f) rank size values =
     on_found (scoped_rank f.first rank size values) (λ a. on_found (scoped_rank f.last rank size values) (λ b. on_found (scoped_step f.step rank size values) (λ s. Ok (record { first = a; last = b; step = s }))))
 
-abbrev pub above : Option ℕ → ℤ → Result ℕ Reason
+abbrev pub above : Option ℕ → ℤ → Result ℕ FaultReason
 above None n = Err (reason.CommunicatorRange n)
 above (Some c) n = Ok (128 + c)
 
@@ -125,7 +125,7 @@ abbrev pub scoped_message : Expression → Expression → Scoped Message
 scoped_message destination tag rank size values =
     on_found (peer_of destination rank size values) (λ d. on_found (tag_of tag rank size values) (λ t. Ok (record { destination = d; tag = t })))
 
-abbrev pub sent : Mode → Option LabelForm → Expression → Expression → Option Expression → Scoped Prepared
+abbrev pub sent : SendMode → Option LabelForm → Expression → Expression → Option Expression → Scoped Prepared
 sent mode request destination tag communicator rank size values =
     on_found (optional_label request rank size values) (λ r. on_found (scoped_message destination tag rank size values) (λ m. on_found (scoped_communicator communicator rank size values) (λ c. Ok (given.Send mode r m.destination m.tag c))))
 
@@ -151,7 +151,7 @@ abbrev pub exchanged : Expression → Expression → Option Expression → Optio
 exchanged destination send_tag source receive_tag communicator rank size values =
     on_found (scoped_message destination send_tag rank size values) (λ m. on_found (scoped_pattern source receive_tag communicator rank size values) (λ p. Ok (given.SendReceive m.destination m.tag p.source p.tag p.communicator)))
 
-abbrev pub collected : Kind → Option Expression → Option GroupForm → Option Expression → Scoped Prepared
+abbrev pub collected : CollectiveKind → Option Expression → Option GroupForm → Option Expression → Scoped Prepared
 collected kind root group communicator rank size values =
     on_found (root_of root rank size values) (λ r. on_found (group_of group rank size values) (λ g. on_found (collective_communicator communicator rank size values) (λ c. Ok (given.Collective kind r g c))))
 

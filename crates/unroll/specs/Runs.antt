@@ -1,18 +1,18 @@
 -- What is kept while a text is unrolled, and what one call does to it.
 use Rattle.std.specs.Prelude.{ℕ, ◌+◌, ℤ, Bool, true, false, nat_lt, nat_le, List, [], ◌∷◌, ◌++◌, length, Option, Some, None, Result, Ok, Err, slice_set, if◌then◌else◌}
-use Rattle.spmd_tree.specs.declared.tree.Mode.{Mode}
-use Rattle.spmd_tree.specs.declared.tree.Mode.TheVariants.{Standard}
-use Rattle.spmd_tree.specs.declared.tree.Kind.{Kind}
+use Rattle.spmd_tree.specs.declared.tree.SendMode.{SendMode}
+use Rattle.spmd_tree.specs.declared.tree.SendMode.TheVariants.{Standard}
+use Rattle.spmd_tree.specs.declared.tree.CollectiveKind.{CollectiveKind}
 use Rattle.unroll.specs.declared.value.Value.{Value}
 use Rattle.unroll.specs.declared.value.Value.TheVariants.{Number}
-use Rattle.unroll.specs.declared.value.Reason.{Reason}
-use Rattle.unroll.specs.declared.value.Reason.TheVariants as reason
+use Rattle.unroll.specs.declared.value.FaultReason.{FaultReason}
+use Rattle.unroll.specs.declared.value.FaultReason.TheVariants as reason
 use Rattle.unroll.specs.declared.call.Label.{Label}
 use Rattle.unroll.specs.declared.call.LeftOut.{LeftOut}
 use Rattle.unroll.specs.declared.call.Group.{Group}
 use Rattle.unroll.specs.declared.call.Meeting.{Meeting}
-use Rattle.unroll.specs.declared.call.Call.{Call}
-use Rattle.unroll.specs.declared.call.Call.TheVariants as call
+use Rattle.unroll.specs.declared.call.UnrolledCall.{UnrolledCall}
+use Rattle.unroll.specs.declared.call.UnrolledCall.TheVariants as call
 use Rattle.unroll.specs.declared.call.Placed.{Placed}
 use Rattle.unroll.specs.declared.call.Turn.{Turn}
 use Rattle.unroll.specs.declared.call.Fault.{Fault}
@@ -44,21 +44,21 @@ abbrev pub then_do : Outcome → (TextRun → Outcome) → Outcome
 then_do (Done run) go = go run
 then_do (Failed fault run) go = Failed fault run
 
-abbrev pub fault_on_line : Scope → ℕ → Reason → TextRun → Fault
+abbrev pub fault_on_line : Scope → ℕ → FaultReason → TextRun → Fault
 fault_on_line scope line why run = record { rank = scope.rank; line = line; turn = run.turn; reason = why }
 
-abbrev pub failed : Scope → ℕ → Reason → TextRun → Outcome
+abbrev pub failed : Scope → ℕ → FaultReason → TextRun → Outcome
 failed scope line why run = Failed (fault_on_line scope line why run) run
 
 -- goes on with what was evaluated, or fails
-abbrev pub attempt : {A : Type 0} → Scope → ℕ → TextRun → Result A Reason → (A → Outcome) → Outcome
+abbrev pub attempt : {A : Type 0} → Scope → ℕ → TextRun → Result A FaultReason → (A → Outcome) → Outcome
 attempt scope line run (Err why) go = failed scope line why run
 attempt scope line run (Ok x) go = go x
 
 -- ---- calls
 
 -- one call more, unless there are as many as may be
-abbrev pub call_put : Scope → ℕ → Call → TextRun → Outcome
+abbrev pub call_put : Scope → ℕ → UnrolledCall → TextRun → Outcome
 call_put scope line c run =
     if nat_lt (length run.calls) scope.most_calls
     then Done (record { values = run.values; left_out = run.left_out; met = run.met; calls = run.calls ++ record { rank = scope.rank; line = line; turn = run.turn; call = c } ∷ []; turns = run.turns; turn = run.turn })
@@ -105,18 +105,18 @@ waited scope line request run =
 
 -- a joined send and receive with null on one side is the other side alone; with null on both sides
 -- it is no call
-abbrev pub joined_call : Option ℕ → ℕ → Option (Option ℕ) → Option ℕ → ℕ → Option Call
+abbrev pub joined_call : Option ℕ → ℕ → Option (Option ℕ) → Option ℕ → ℕ → Option UnrolledCall
 joined_call None send_tag None receive_tag c = None
 joined_call None send_tag (Some source) receive_tag c = Some (call.Receive None source receive_tag c)
 joined_call (Some destination) send_tag None receive_tag c = Some (call.Send Standard None destination send_tag c)
 joined_call (Some destination) send_tag (Some source) receive_tag c = Some (call.SendReceive destination send_tag source receive_tag c)
 
-abbrev pub put_optional : Scope → ℕ → Option Call → TextRun → Outcome
+abbrev pub put_optional : Scope → ℕ → Option UnrolledCall → TextRun → Outcome
 put_optional scope line None run = Done run
 put_optional scope line (Some c) run = call_put scope line c run
 
 -- these calls, one after another
-abbrev pub put_each : List Call → Scope → ℕ → TextRun → Outcome
+abbrev pub put_each : List UnrolledCall → Scope → ℕ → TextRun → Outcome
 put_each [] scope line run = Done run
 put_each (c ∷ others) scope line run = then_do (call_put scope line c run) (λ r. put_each others scope line r)
 
@@ -125,7 +125,7 @@ abbrev pub meeting_noted : ℕ → Group → TextRun → TextRun
 meeting_noted c g run = record { values = run.values; left_out = run.left_out; met = run.met ++ record { communicator = c; group = g } ∷ []; calls = run.calls; turns = run.turns; turn = run.turn }
 
 -- a collective call is the calls that it stands for; who makes it, and its root, are of its group
-abbrev pub collective_run : Scope → ℕ → Kind → ℕ → Group → ℕ → TextRun → Outcome
+abbrev pub collective_run : Scope → ℕ → CollectiveKind → ℕ → Group → ℕ → TextRun → Outcome
 collective_run scope line kind root g c run =
     if is_member g scope.rank
     then if is_member g root
@@ -136,7 +136,7 @@ collective_run scope line kind root g c run =
     else failed scope line (reason.NotInGroup scope.rank) run
 
 -- a send, with its peer or with null
-abbrev pub sent : Scope → ℕ → Mode → Option Label → Option ℕ → ℕ → ℕ → TextRun → Outcome
+abbrev pub sent : Scope → ℕ → SendMode → Option Label → Option ℕ → ℕ → ℕ → TextRun → Outcome
 sent scope line mode request destination tag c run =
     then_do (guarded_request scope line request run) (λ r. with_peer destination (left_request line request r) (λ d. call_put scope line (call.Send mode request d tag c) r))
 
@@ -162,7 +162,7 @@ perform scope line (given.Wait request) run = waited scope line request run
 perform scope line (given.SendReceive destination send_tag source receive_tag c) run = put_optional scope line (joined_call destination send_tag source receive_tag c) run
 
 -- the first request of a `waitall`, or a further one
-abbrev pub wait_call : Bool → Label → Call
+abbrev pub wait_call : Bool → Label → UnrolledCall
 wait_call true request = call.WaitAll request
 wait_call false request = call.WaitAlso request
 

@@ -6,11 +6,11 @@ use Rattle.spmd_tree.specs.declared.tree.LabelForm.{LabelForm}
 use Rattle.spmd_tree.specs.declared.tree.Labels.{Labels}
 use Rattle.spmd_tree.specs.declared.tree.Labels.TheVariants.{Last, More'}
 use Rattle.spmd_tree.specs.declared.tree.Arguments.{Arguments}
-use Rattle.spmd_tree.specs.declared.tree.Statement.{Statement}
-use Rattle.spmd_tree.specs.declared.tree.Statement.TheVariants as form
+use Rattle.spmd_tree.specs.declared.tree.SpmdStatement.{SpmdStatement}
+use Rattle.spmd_tree.specs.declared.tree.SpmdStatement.TheVariants as form
 use Rattle.unroll.specs.declared.value.Value.{Value}
-use Rattle.unroll.specs.declared.value.Reason.{Reason}
-use Rattle.unroll.specs.declared.value.Reason.TheVariants as reason
+use Rattle.unroll.specs.declared.value.FaultReason.{FaultReason}
+use Rattle.unroll.specs.declared.value.FaultReason.TheVariants as reason
 use Rattle.unroll.specs.declared.call.Label.{Label}
 use Rattle.unroll.specs.declared.call.LeftOut.{LeftOut}
 use Rattle.unroll.specs.declared.machine.Scope.{Scope}
@@ -54,7 +54,7 @@ called scope line arguments run = attempt scope line run (prepared arguments sco
 abbrev pub waiting_for_request : Scope → ℕ → Bool → LabelForm → TextRun → Outcome
 waiting_for_request scope line first f run = attempt scope line run (label_of f scope.rank scope.size run.values) (λ l. wait_part scope line first l run)
 
-abbrev pub first_after : Bool → Result Label Reason → TextRun → Bool
+abbrev pub first_after : Bool → Result Label FaultReason → TextRun → Bool
 first_after first (Ok l) run = still_first first l run
 first_after first (Err why) run = first
 
@@ -82,7 +82,7 @@ turns (suc n) body scope line name step outer span run =
     then Done (loop_finished name outer run)
     else then_do (turn_begun scope line name outer span.value run) (λ r. then_do (body r) (λ s. next_turn (advanced span step) (Done (loop_finished name outer s)) (λ next. turns n body scope line name step outer next s)))
 
-abbrev pub meaning : Statement → Scope → TextRun → Outcome
+abbrev pub meaning : SpmdStatement → Scope → TextRun → Outcome
 meaning form.Nothing scope run = Done run
 meaning (form.Sequence' p a q b) scope run = then_do (meaning a scope run) (λ r. meaning b scope r)
 meaning (form.Parameter line name e) scope run = parameter scope line name e run
@@ -107,11 +107,11 @@ abbrev pub ended : ℕ → List LeftOut → TextRun → Outcome
 ended rank [] run = Done run
 ended rank (l ∷ others) run = Failed (record { rank = rank; line = l.line; turn = l.turn; reason = reason.NeverEnded l.label.name }) run
 
-abbrev pub rank_run : Statement → List (Option Value) → Scope → TextRun → Outcome
+abbrev pub rank_run : SpmdStatement → List (Option Value) → Scope → TextRun → Outcome
 rank_run program settings scope run = then_do (meaning program scope (fresh settings run)) (λ r. ended scope.rank r.left_out r)
 
 -- so many ranks from this one on
-abbrev pub ranks_from : ℕ → Statement → List (Option Value) → ℕ → ℕ → Bool → ℕ → ℕ → TextRun → Outcome
+abbrev pub ranks_from : ℕ → SpmdStatement → List (Option Value) → ℕ → ℕ → Bool → ℕ → ℕ → TextRun → Outcome
 ranks_from zero program settings rank size barriers most_calls most_turns run = Done run
 ranks_from (suc n) program settings rank size barriers most_calls most_turns run =
     then_do (rank_run program settings (record { rank = rank; size = size; barriers = barriers; most_calls = most_calls; most_turns = most_turns }) run) (λ r. ranks_from n program settings (rank + 1) size barriers most_calls most_turns r)
@@ -121,5 +121,5 @@ abbrev pub nothing_unrolled : TextRun
 nothing_unrolled = record { values = []; left_out = []; met = []; calls = []; turns = []; turn = 0 }
 
 -- the whole text, for so many ranks, where collective calls are barriers or not
-abbrev pub text_run : Statement → List (Option Value) → ℕ → Bool → ℕ → ℕ → Outcome
+abbrev pub text_run : SpmdStatement → List (Option Value) → ℕ → Bool → ℕ → ℕ → Outcome
 text_run program settings size barriers most_calls most_turns = ranks_from size program settings 0 size barriers most_calls most_turns nothing_unrolled

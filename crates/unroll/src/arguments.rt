@@ -8,15 +8,15 @@ use crate::parts::{
     collective_communicator, communicator, group, label, optional_label, optional_tag, peer, root,
     source, tag,
 };
-use crate::value::{Reason, Value};
-use spmd_tree::{Arguments, Expression, GroupForm, Kind, LabelForm, Mode};
+use crate::value::{FaultReason, Value};
+use spmd_tree::{Arguments, Expression, GroupForm, CollectiveKind, LabelForm, SendMode};
 
 /// The arguments of a call. A destination or source that is `None` is `null`. A source that is
 /// `Some(None)` is a wildcard, and so is a tag that is `None`.
 #[derive(Clone, Copy)]
 pub(crate) enum Prepared {
     Send {
-        mode: Mode,
+        mode: SendMode,
         request: Option<Label>,
         destination: Option<u32>,
         tag: u32,
@@ -56,7 +56,7 @@ pub(crate) enum Prepared {
     /// The communicator is that of the messages which the collective call stands for, 128 to 255.
     /// No root means the first rank of the group.
     Collective {
-        kind: Kind,
+        kind: CollectiveKind,
         root: Option<u32>,
         group: Group,
         communicator: u32,
@@ -86,7 +86,7 @@ fn matching(
     rank: u32,
     size: u32,
     values: &[Option<Value>],
-) -> Result<Pattern, Reason>
+) -> Result<Pattern, FaultReason>
     ensures { result ≡ scoped_pattern from.now wanted.now on.now rank size values.now }
 {
     let source = source(from, rank, size, values)?;
@@ -106,7 +106,7 @@ fn outgoing(
     rank: u32,
     size: u32,
     values: &[Option<Value>],
-) -> Result<Message, Reason>
+) -> Result<Message, FaultReason>
     ensures { result ≡ scoped_message to.now given.now rank size values.now }
 {
     let destination = peer(to, rank, size, values)?;
@@ -115,7 +115,7 @@ fn outgoing(
 }
 
 fn sent(
-    mode: Mode,
+    mode: SendMode,
     request: &Option<LabelForm>,
     to: &Expression,
     given: &Expression,
@@ -123,7 +123,7 @@ fn sent(
     rank: u32,
     size: u32,
     values: &[Option<Value>],
-) -> Result<Prepared, Reason>
+) -> Result<Prepared, FaultReason>
     ensures { result ≡ sent mode request.now to.now given.now on.now rank size values.now }
 {
     let request = optional_label(request, rank, size, values)?;
@@ -146,7 +146,7 @@ fn received(
     rank: u32,
     size: u32,
     values: &[Option<Value>],
-) -> Result<Prepared, Reason>
+) -> Result<Prepared, FaultReason>
     ensures { result ≡ received request.now from.now wanted.now on.now rank size values.now }
 {
     let request = optional_label(request, rank, size, values)?;
@@ -167,7 +167,7 @@ fn matched(
     rank: u32,
     size: u32,
     values: &[Option<Value>],
-) -> Result<Prepared, Reason>
+) -> Result<Prepared, FaultReason>
     ensures { result ≡ matched handle.now from.now wanted.now on.now rank size values.now }
 {
     let handle = label(handle, rank, size, values)?;
@@ -187,7 +187,7 @@ fn probed(
     rank: u32,
     size: u32,
     values: &[Option<Value>],
-) -> Result<Prepared, Reason>
+) -> Result<Prepared, FaultReason>
     ensures { result ≡ probed from.now wanted.now on.now rank size values.now }
 {
     let pattern = matching(from, wanted, on, rank, size, values)?;
@@ -204,7 +204,7 @@ fn matched_received(
     rank: u32,
     size: u32,
     values: &[Option<Value>],
-) -> Result<Prepared, Reason>
+) -> Result<Prepared, FaultReason>
     ensures { result ≡ matched_received request.now handle.now rank size values.now }
 {
     let request = optional_label(request, rank, size, values)?;
@@ -217,7 +217,7 @@ fn waited(
     rank: u32,
     size: u32,
     values: &[Option<Value>],
-) -> Result<Prepared, Reason>
+) -> Result<Prepared, FaultReason>
     ensures { result ≡ waited request.now rank size values.now }
 {
     let request = label(request, rank, size, values)?;
@@ -233,7 +233,7 @@ fn exchanged(
     rank: u32,
     size: u32,
     values: &[Option<Value>],
-) -> Result<Prepared, Reason>
+) -> Result<Prepared, FaultReason>
     ensures { result ≡ exchanged to.now given.now from.now wanted.now on.now rank size values.now }
 {
     let message = outgoing(to, given, rank, size, values)?;
@@ -248,14 +248,14 @@ fn exchanged(
 }
 
 fn collected(
-    kind: Kind,
+    kind: CollectiveKind,
     by: &Option<Expression>,
     among: &Option<GroupForm>,
     on: &Option<Expression>,
     rank: u32,
     size: u32,
     values: &[Option<Value>],
-) -> Result<Prepared, Reason>
+) -> Result<Prepared, FaultReason>
     ensures { result ≡ collected kind by.now among.now on.now rank size values.now }
 {
     let root = root(by, rank, size, values)?;
@@ -276,7 +276,7 @@ pub(crate) fn prepare(
     rank: u32,
     size: u32,
     values: &[Option<Value>],
-) -> Result<Prepared, Reason>
+) -> Result<Prepared, FaultReason>
     ensures { result ≡ prepared arguments.now rank size values.now }
 {
     match arguments {

@@ -3,32 +3,32 @@
 ghost use Rattle.std.specs.Prelude.{◌≡◌, ◌≤◌, ◌<◌, IfSome, ◌^◌, pos, ◌+ℤ◌, ◌-ℤ◌, ◌*ℤ◌, int_lt, int_le};
 ghost use Rattle.unroll.specs.Values.{checked, number_or_overflow, operate, compares, power, as_number, as_truth, alike, ordered, below};
 
-use crate::value::{Reason, Value};
+use crate::value::{FaultReason, Value};
 use spmd_tree::{Comparison, Operator};
 
 /// The number, where it is one of 64 bits.
-fn told(number: Option<i64>) -> Result<Value, Reason>
+fn told(number: Option<i64>) -> Result<Value, FaultReason>
     ensures { result ≡ number_or_overflow number }
 {
     match number {
         Some(number) => Ok(Value::Number(number)),
-        None => Err(Reason::Overflow),
+        None => Err(FaultReason::Overflow),
     }
 }
 
-fn sum(a: i64, b: i64) -> Result<Value, Reason>
+fn sum(a: i64, b: i64) -> Result<Value, FaultReason>
     ensures { result ≡ checked (a +ℤ b) }
 {
     told(a.checked_add(b))
 }
 
-fn difference(a: i64, b: i64) -> Result<Value, Reason>
+fn difference(a: i64, b: i64) -> Result<Value, FaultReason>
     ensures { result ≡ checked (a -ℤ b) }
 {
     told(a.checked_sub(b))
 }
 
-fn product(a: i64, b: i64) -> Result<Value, Reason>
+fn product(a: i64, b: i64) -> Result<Value, FaultReason>
     ensures { result ≡ checked (a *ℤ b) }
 {
     told(a.checked_mul(b))
@@ -67,7 +67,7 @@ pub(crate) fn below(number: i64, limit: u32) -> Option<u32>
 }
 
 /// What the operator gives.
-pub(crate) fn operate(operator: Operator, a: i64, b: i64) -> Result<Value, Reason>
+pub(crate) fn operate(operator: Operator, a: i64, b: i64) -> Result<Value, FaultReason>
     ensures { result ≡ operate operator a b }
 {
     match operator {
@@ -76,39 +76,39 @@ pub(crate) fn operate(operator: Operator, a: i64, b: i64) -> Result<Value, Reaso
         Operator::Times => product(a, b),
         Operator::Quotient => {
             if b <= 0 {
-                return Err(Reason::Divisor { divisor: b });
+                return Err(FaultReason::Divisor { divisor: b });
             }
             Ok(Value::Number(a.div_euclid(b)))
         }
         Operator::Remainder => {
             if b <= 0 {
-                return Err(Reason::Divisor { divisor: b });
+                return Err(FaultReason::Divisor { divisor: b });
             }
             Ok(Value::Number(a.rem_euclid(b)))
         }
         Operator::Left => match power(b) {
-            None => Err(Reason::Shift { by: b }),
+            None => Err(FaultReason::Shift { by: b }),
             Some(factor) => product(a, factor),
         },
         Operator::Right => match power(b) {
-            None => Err(Reason::Shift { by: b }),
+            None => Err(FaultReason::Shift { by: b }),
             Some(divisor) => {
                 if divisor <= 0 {
-                    return Err(Reason::Shift { by: b });
+                    return Err(FaultReason::Shift { by: b });
                 }
                 Ok(Value::Number(a.div_euclid(divisor)))
             }
         },
         Operator::Exclusive => {
             if a < 0 {
-                return Err(Reason::BelowZero { number: a });
+                return Err(FaultReason::BelowZero { number: a });
             }
             if b < 0 {
-                return Err(Reason::BelowZero { number: b });
+                return Err(FaultReason::BelowZero { number: b });
             }
             let bits = a as u64 ^ b as u64;
             if bits > i64::MAX as u64 {
-                return Err(Reason::Overflow);
+                return Err(FaultReason::Overflow);
             }
             Ok(Value::Number(bits as i64))
         }
@@ -116,48 +116,48 @@ pub(crate) fn operate(operator: Operator, a: i64, b: i64) -> Result<Value, Reaso
 }
 
 /// The number, where the value is one.
-pub(crate) fn as_number(value: Value) -> Result<i64, Reason>
+pub(crate) fn as_number(value: Value) -> Result<i64, FaultReason>
     ensures { result ≡ as_number value }
 {
     match value {
         Value::Number(number) => Ok(number),
-        Value::Null => Err(Reason::NullNumber),
-        Value::Truth(_) => Err(Reason::Kind),
+        Value::Null => Err(FaultReason::NullNumber),
+        Value::Truth(_) => Err(FaultReason::Kind),
     }
 }
 
 /// Whether the condition holds, where the value is a condition's.
-pub(crate) fn as_truth(value: Value) -> Result<bool, Reason>
+pub(crate) fn as_truth(value: Value) -> Result<bool, FaultReason>
     ensures { result ≡ as_truth value }
 {
     match value {
         Value::Truth(truth) => Ok(truth),
-        Value::Number(_) => Err(Reason::Kind),
-        Value::Null => Err(Reason::Kind),
+        Value::Number(_) => Err(FaultReason::Kind),
+        Value::Null => Err(FaultReason::Kind),
     }
 }
 
 /// Whether two values are the same, `null` among them.
-fn alike(a: Value, b: Value) -> Result<bool, Reason>
+fn alike(a: Value, b: Value) -> Result<bool, FaultReason>
     ensures { result ≡ alike a b }
 {
     match a {
         Value::Number(x) => match b {
             Value::Number(y) => Ok(x == y),
             Value::Null => Ok(false),
-            Value::Truth(_) => Err(Reason::Kind),
+            Value::Truth(_) => Err(FaultReason::Kind),
         },
         Value::Null => match b {
             Value::Number(_) => Ok(false),
             Value::Null => Ok(true),
-            Value::Truth(_) => Err(Reason::Kind),
+            Value::Truth(_) => Err(FaultReason::Kind),
         },
-        Value::Truth(_) => Err(Reason::Kind),
+        Value::Truth(_) => Err(FaultReason::Kind),
     }
 }
 
 /// Whether the comparison holds.
-pub(crate) fn compares(comparison: Comparison, a: Value, b: Value) -> Result<bool, Reason>
+pub(crate) fn compares(comparison: Comparison, a: Value, b: Value) -> Result<bool, FaultReason>
     ensures { result ≡ compares comparison a b }
 {
     match comparison {
@@ -173,7 +173,7 @@ pub(crate) fn compares(comparison: Comparison, a: Value, b: Value) -> Result<boo
     }
 }
 
-fn less(a: Value, b: Value) -> Result<bool, Reason>
+fn less(a: Value, b: Value) -> Result<bool, FaultReason>
     ensures { result ≡ ordered (λ x y. int_lt x y) a b }
 {
     match as_number(a) {
@@ -185,7 +185,7 @@ fn less(a: Value, b: Value) -> Result<bool, Reason>
     }
 }
 
-fn up_to(a: Value, b: Value) -> Result<bool, Reason>
+fn up_to(a: Value, b: Value) -> Result<bool, FaultReason>
     ensures { result ≡ ordered (λ x y. int_le x y) a b }
 {
     match as_number(a) {
@@ -197,7 +197,7 @@ fn up_to(a: Value, b: Value) -> Result<bool, Reason>
     }
 }
 
-fn above(a: Value, b: Value) -> Result<bool, Reason>
+fn above(a: Value, b: Value) -> Result<bool, FaultReason>
     ensures { result ≡ ordered (λ x y. int_lt y x) a b }
 {
     match as_number(a) {
@@ -209,7 +209,7 @@ fn above(a: Value, b: Value) -> Result<bool, Reason>
     }
 }
 
-fn from(a: Value, b: Value) -> Result<bool, Reason>
+fn from(a: Value, b: Value) -> Result<bool, FaultReason>
     ensures { result ≡ ordered (λ x y. int_le y x) a b }
 {
     match as_number(a) {

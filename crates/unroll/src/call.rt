@@ -3,8 +3,8 @@
 ghost use Rattle.std.specs.Prelude.{◌≡◌};
 ghost use Rattle.unroll.specs.Labels.{same_label, same_index, is_for};
 
-use crate::value::Reason;
-use spmd_tree::Mode;
+use crate::value::FaultReason;
+use spmd_tree::SendMode;
 
 /// A request or a handle: a name, by its place from 0 in the list of the text's names, and maybe an
 /// index, 0 to 99,999. Two labels are the same where both are.
@@ -19,10 +19,10 @@ pub struct Label {
 /// those that a collective call stands for are in communicators 128 to 255, with tags below 2^31. A
 /// line of several waits is several calls here.
 #[derive(Clone, Copy)]
-pub enum Call {
+pub enum UnrolledCall {
     /// A send, which is started where it has a request (MPI 4.1, sections 3.2.1 and 3.7.2).
     Send {
-        mode: Mode,
+        mode: SendMode,
         request: Option<Label>,
         destination: u32,
         tag: u32,
@@ -82,7 +82,7 @@ pub struct Placed {
     pub rank: u32,
     pub line: u32,
     pub turn: u64,
-    pub call: Call,
+    pub call: UnrolledCall,
 }
 
 /// A turn of a loop: the loop's variable and its value, and the turn of the loop around it, 0 where
@@ -101,7 +101,7 @@ pub struct Fault {
     pub rank: u32,
     pub line: u32,
     pub turn: u64,
-    pub reason: Reason,
+    pub reason: FaultReason,
 }
 
 /// The ranks of a collective call: from the first up to the last, each a step above the one before.

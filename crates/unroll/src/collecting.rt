@@ -5,15 +5,15 @@ ghost use Rattle.unroll.specs.Collectives.{kind_for};
 ghost use Rattle.unroll.specs.parts.Runs.{HasOutcome, seen_run, faulty};
 ghost use Rattle.unroll.specs.Runs.{call_put, put_each, collective_run};
 
-use crate::call::{Call, Group, Meeting};
+use crate::call::{UnrolledCall, Group, Meeting};
 use crate::collective::{calls_of, way_of};
 use crate::machine::{Machine, Scope, Stop, faulty, put};
 use crate::members::{earlier, is_member};
-use crate::value::Reason;
-use spmd_tree::Kind;
+use crate::value::FaultReason;
+use spmd_tree::CollectiveKind;
 
 /// Makes these calls, one after another.
-fn put_each(machine: &mut Machine, scope: Scope, line: u32, calls: &[Call]) -> Result<(), Stop>
+fn put_each(machine: &mut Machine, scope: Scope, line: u32, calls: &[UnrolledCall]) -> Result<(), Stop>
     ensures { HasOutcome result (put_each calls.now scope line (seen_run machine.old)) (seen_run machine.new) }
 {
     for call in calls {
@@ -26,10 +26,10 @@ fn put_each(machine: &mut Machine, scope: Scope, line: u32, calls: &[Call]) -> R
 }
 
 /// The kind of a collective call whose calls are made.
-fn kind_for(barriers: bool, kind: Kind) -> Kind
+fn kind_for(barriers: bool, kind: CollectiveKind) -> CollectiveKind
     ensures { result ≡ kind_for barriers kind }
 {
-    if barriers { Kind::Barrier } else { kind }
+    if barriers { CollectiveKind::Barrier } else { kind }
 }
 
 /// Makes the calls that a collective call stands for.
@@ -37,7 +37,7 @@ pub(crate) fn perform_collective(
     machine: &mut Machine,
     scope: Scope,
     line: u32,
-    kind: Kind,
+    kind: CollectiveKind,
     root: u32,
     group: Group,
     communicator: u32,
@@ -49,15 +49,15 @@ pub(crate) fn perform_collective(
             machine,
             scope,
             line,
-            Reason::NotInGroup { rank: scope.rank },
+            FaultReason::NotInGroup { rank: scope.rank },
         ));
     }
     if !is_member(group, root) {
-        return Err(faulty(machine, scope, line, Reason::NotInGroup { rank: root }));
+        return Err(faulty(machine, scope, line, FaultReason::NotInGroup { rank: root }));
     }
     let before = earlier(&machine.met, communicator, group);
     if before >= 67_108_864 {
-        return Err(faulty(machine, scope, line, Reason::TooManyCollectives));
+        return Err(faulty(machine, scope, line, FaultReason::TooManyCollectives));
     }
     let way = way_of(kind, before as u32, communicator);
     let calls = calls_of(

@@ -7,9 +7,9 @@ ghost use Rattle.std.specs.Prelude.{◌≡◌, ◌≤◌, ◌<◌, ◌++◌, IfO
 ghost use Rattle.unroll.specs.Groups.{others, earlier_meetings, before, member_after};
 ghost use Rattle.unroll.specs.Collectives.{number, way_of, send, receive, sends, receives, meet, spread, collect, chain, collective_calls};
 
-use crate::call::{Call, Group};
+use crate::call::{UnrolledCall, Group};
 use crate::members::{after, before, earlier, others};
-use spmd_tree::{Kind, Mode};
+use spmd_tree::{CollectiveKind, SendMode};
 use std::alloc::{AllocError, Global};
 
 /// How the messages of a collective call are known: those of its first round by one tag, those of
@@ -22,26 +22,26 @@ pub(crate) struct Way {
 }
 
 /// The number of a kind of call, 0 to 8, which is part of its tags.
-fn number(kind: Kind) -> u32
+fn number(kind: CollectiveKind) -> u32
     ensures number { result ≡ number kind }
     ensures small { result ≤ 8 }
 {
     match kind {
-        Kind::Barrier => 0,
-        Kind::Broadcast => 1,
-        Kind::Reduce => 2,
-        Kind::AllReduce => 3,
-        Kind::Gather => 4,
-        Kind::Scatter => 5,
-        Kind::AllGather => 6,
-        Kind::AllToAll => 7,
-        Kind::Scan => 8,
+        CollectiveKind::Barrier => 0,
+        CollectiveKind::Broadcast => 1,
+        CollectiveKind::Reduce => 2,
+        CollectiveKind::AllReduce => 3,
+        CollectiveKind::Gather => 4,
+        CollectiveKind::Scatter => 5,
+        CollectiveKind::AllGather => 6,
+        CollectiveKind::AllToAll => 7,
+        CollectiveKind::Scan => 8,
     }
 }
 
 /// How the messages are known of a collective call before which so many were made with its
 /// communicator and group: by tags below 2^31.
-pub(crate) fn way_of(kind: Kind, earlier: u32, communicator: u32) -> Way
+pub(crate) fn way_of(kind: CollectiveKind, earlier: u32, communicator: u32) -> Way
     requires { earlier_meetings < 67108864 }
     ensures { result ≡ way_of kind earlier_meetings communicator }
 {
@@ -54,10 +54,10 @@ pub(crate) fn way_of(kind: Kind, earlier: u32, communicator: u32) -> Way
 }
 
 /// A blocking send.
-fn send(mode: Mode, destination: u32, tag: u32, communicator: u32) -> Call
+fn send(mode: SendMode, destination: u32, tag: u32, communicator: u32) -> UnrolledCall
     ensures { result ≡ send mode tag communicator destination }
 {
-    Call::Send {
+    UnrolledCall::Send {
         mode,
         request: None,
         destination,
@@ -67,10 +67,10 @@ fn send(mode: Mode, destination: u32, tag: u32, communicator: u32) -> Call
 }
 
 /// A blocking receive.
-fn receive(source: u32, tag: u32, communicator: u32) -> Call
+fn receive(source: u32, tag: u32, communicator: u32) -> UnrolledCall
     ensures { result ≡ receive tag communicator source }
 {
-    Call::Receive {
+    UnrolledCall::Receive {
         request: None,
         source: Some(source),
         tag: Some(tag),
@@ -80,8 +80,8 @@ fn receive(source: u32, tag: u32, communicator: u32) -> Call
 
 /// Adds a send to each of these ranks.
 fn push_sends(
-    calls: &mut Vec<Call>,
-    mode: Mode,
+    calls: &mut Vec<UnrolledCall>,
+    mode: SendMode,
     tag: u32,
     communicator: u32,
     ranks: &[u32],
@@ -96,7 +96,7 @@ fn push_sends(
 
 /// Adds a receive from each of these ranks.
 fn push_receives(
-    calls: &mut Vec<Call>,
+    calls: &mut Vec<UnrolledCall>,
     tag: u32,
     communicator: u32,
     ranks: &[u32],
@@ -116,7 +116,7 @@ fn meet(
     root: u32,
     others: &[u32],
     way: Way,
-) -> Result<Vec<Call>, AllocError>
+) -> Result<Vec<UnrolledCall>, AllocError>
     ensures { IfOk result (λ calls. calls.items ≡ meet is_root root others.now way) }
 {
     let mut calls = Vec::new(alloc);
@@ -124,14 +124,14 @@ fn meet(
         push_receives(&mut calls, way.first, way.communicator, others)?;
         push_sends(
             &mut calls,
-            Mode::Buffered,
+            SendMode::Buffered,
             way.second,
             way.communicator,
             others,
         )?;
         return Ok(calls);
     }
-    calls.push(send(Mode::Buffered, root, way.first, way.communicator))?;
+    calls.push(send(SendMode::Buffered, root, way.first, way.communicator))?;
     calls.push(receive(root, way.second, way.communicator))?;
     Ok(calls)
 }
@@ -143,21 +143,21 @@ fn spread(
     root: u32,
     others: &[u32],
     way: Way,
-) -> Result<Vec<Call>, AllocError>
+) -> Result<Vec<UnrolledCall>, AllocError>
     ensures { IfOk result (λ calls. calls.items ≡ spread is_root root others.now way) }
 {
     let mut calls = Vec::new(alloc);
     if is_root {
         push_sends(
             &mut calls,
-            Mode::Standard,
+            SendMode::Standard,
             way.first,
             way.communicator,
             others,
         )?;
         push_sends(
             &mut calls,
-            Mode::Buffered,
+            SendMode::Buffered,
             way.second,
             way.communicator,
             others,
@@ -176,7 +176,7 @@ pub(crate) fn collect(
     root: u32,
     others: &[u32],
     way: Way,
-) -> Result<Vec<Call>, AllocError>
+) -> Result<Vec<UnrolledCall>, AllocError>
     ensures { IfOk result (λ calls. calls.items ≡ collect is_root root others.now way) }
 {
     let mut calls = Vec::new(alloc);
@@ -185,8 +185,8 @@ pub(crate) fn collect(
         push_receives(&mut calls, way.second, way.communicator, others)?;
         return Ok(calls);
     }
-    calls.push(send(Mode::Buffered, root, way.first, way.communicator))?;
-    calls.push(send(Mode::Standard, root, way.second, way.communicator))?;
+    calls.push(send(SendMode::Buffered, root, way.first, way.communicator))?;
+    calls.push(send(SendMode::Standard, root, way.second, way.communicator))?;
     Ok(calls)
 }
 
@@ -196,7 +196,7 @@ fn chain(
     before: Option<u32>,
     after: Option<u32>,
     way: Way,
-) -> Result<Vec<Call>, AllocError>
+) -> Result<Vec<UnrolledCall>, AllocError>
     ensures { IfOk result (λ calls. calls.items ≡ chain before member_after way) }
 {
     let mut calls = Vec::new(alloc);
@@ -204,8 +204,8 @@ fn chain(
         None => match after {
             None => Ok(calls),
             Some(next) => {
-                calls.push(send(Mode::Buffered, next, way.first, way.communicator))?;
-                calls.push(send(Mode::Standard, next, way.second, way.communicator))?;
+                calls.push(send(SendMode::Buffered, next, way.first, way.communicator))?;
+                calls.push(send(SendMode::Standard, next, way.second, way.communicator))?;
                 Ok(calls)
             }
         },
@@ -217,8 +217,8 @@ fn chain(
             }
             Some(next) => {
                 calls.push(receive(last, way.first, way.communicator))?;
-                calls.push(send(Mode::Buffered, next, way.first, way.communicator))?;
-                calls.push(send(Mode::Standard, next, way.second, way.communicator))?;
+                calls.push(send(SendMode::Buffered, next, way.first, way.communicator))?;
+                calls.push(send(SendMode::Standard, next, way.second, way.communicator))?;
                 calls.push(receive(last, way.second, way.communicator))?;
                 Ok(calls)
             }
@@ -229,25 +229,25 @@ fn chain(
 /// The calls that a collective call stands for, on this rank of so many.
 pub(crate) fn calls_of(
     alloc: Global,
-    kind: Kind,
+    kind: CollectiveKind,
     root: u32,
     group: Group,
     size: u32,
     rank: u32,
     way: Way,
-) -> Result<Vec<Call>, AllocError>
+) -> Result<Vec<UnrolledCall>, AllocError>
     ensures { IfOk result (λ calls. calls.items ≡ collective_calls kind root group size rank way) }
 {
     let others = others(alloc, group, size, rank)?;
     match kind {
-        Kind::Barrier => meet(alloc, rank == root, root, &others, way),
-        Kind::Broadcast => spread(alloc, rank == root, root, &others, way),
-        Kind::Reduce => collect(alloc, rank == root, root, &others, way),
-        Kind::AllReduce => meet(alloc, rank == root, root, &others, way),
-        Kind::Gather => collect(alloc, rank == root, root, &others, way),
-        Kind::Scatter => spread(alloc, rank == root, root, &others, way),
-        Kind::AllGather => meet(alloc, rank == root, root, &others, way),
-        Kind::AllToAll => meet(alloc, rank == root, root, &others, way),
-        Kind::Scan => chain(alloc, before(group, rank), after(group, rank), way),
+        CollectiveKind::Barrier => meet(alloc, rank == root, root, &others, way),
+        CollectiveKind::Broadcast => spread(alloc, rank == root, root, &others, way),
+        CollectiveKind::Reduce => collect(alloc, rank == root, root, &others, way),
+        CollectiveKind::AllReduce => meet(alloc, rank == root, root, &others, way),
+        CollectiveKind::Gather => collect(alloc, rank == root, root, &others, way),
+        CollectiveKind::Scatter => spread(alloc, rank == root, root, &others, way),
+        CollectiveKind::AllGather => meet(alloc, rank == root, root, &others, way),
+        CollectiveKind::AllToAll => meet(alloc, rank == root, root, &others, way),
+        CollectiveKind::Scan => chain(alloc, before(group, rank), after(group, rank), way),
     }
 }

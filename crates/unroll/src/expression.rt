@@ -4,24 +4,24 @@ ghost use Rattle.std.specs.Prelude.{◌≡◌, slice_get};
 ghost use Rattle.unroll.specs.Expressions.{as_condition, compared, known, number_in, operated, opposed, truth, truth_in, expression_value};
 
 use crate::arithmetic::{as_number, as_truth, compares, operate};
-use crate::value::{Reason, Value};
+use crate::value::{FaultReason, Value};
 use spmd_tree::{Comparison, Expression, Operator};
 
 /// The value of a name, where it has one.
-fn known(values: &[Option<Value>], name: u32) -> Result<Value, Reason>
+fn known(values: &[Option<Value>], name: u32) -> Result<Value, FaultReason>
     ensures { result ≡ known name (slice_get values.now name) }
 {
     match values.get(name as usize) {
-        None => Err(Reason::NoValue { name }),
+        None => Err(FaultReason::NoValue { name }),
         Some(value) => match *value {
-            None => Err(Reason::NoValue { name }),
+            None => Err(FaultReason::NoValue { name }),
             Some(value) => Ok(value),
         },
     }
 }
 
 /// The number that was found.
-pub(crate) fn number_in(found: Result<Value, Reason>) -> Result<i64, Reason>
+pub(crate) fn number_in(found: Result<Value, FaultReason>) -> Result<i64, FaultReason>
     ensures { result ≡ number_in found }
 {
     match found {
@@ -31,7 +31,7 @@ pub(crate) fn number_in(found: Result<Value, Reason>) -> Result<i64, Reason>
 }
 
 /// Whether the condition that was found holds.
-pub(crate) fn truth_in(found: Result<Value, Reason>) -> Result<bool, Reason>
+pub(crate) fn truth_in(found: Result<Value, FaultReason>) -> Result<bool, FaultReason>
     ensures { result ≡ truth_in found }
 {
     match found {
@@ -41,7 +41,7 @@ pub(crate) fn truth_in(found: Result<Value, Reason>) -> Result<bool, Reason>
 }
 
 /// The truth as a value.
-fn truth(holds: Result<bool, Reason>) -> Result<Value, Reason>
+fn truth(holds: Result<bool, FaultReason>) -> Result<Value, FaultReason>
     ensures { result ≡ truth holds }
 {
     match holds {
@@ -51,14 +51,14 @@ fn truth(holds: Result<bool, Reason>) -> Result<Value, Reason>
 }
 
 /// The condition that was found.
-fn as_condition(found: Result<Value, Reason>) -> Result<Value, Reason>
+fn as_condition(found: Result<Value, FaultReason>) -> Result<Value, FaultReason>
     ensures { result ≡ as_condition found }
 {
     truth(truth_in(found))
 }
 
 /// Whether the condition doesn't hold.
-fn opposed(holds: Result<bool, Reason>) -> Result<Value, Reason>
+fn opposed(holds: Result<bool, FaultReason>) -> Result<Value, FaultReason>
     ensures { result ≡ opposed holds }
 {
     match holds {
@@ -70,9 +70,9 @@ fn opposed(holds: Result<bool, Reason>) -> Result<Value, Reason>
 /// What the operator gives on two numbers, where both were found.
 fn operated(
     operator: Operator,
-    a: Result<i64, Reason>,
-    b: Result<i64, Reason>,
-) -> Result<Value, Reason>
+    a: Result<i64, FaultReason>,
+    b: Result<i64, FaultReason>,
+) -> Result<Value, FaultReason>
     ensures { result ≡ operated operator a b }
 {
     match a {
@@ -87,9 +87,9 @@ fn operated(
 /// What the comparison gives on two values, where both were found.
 fn compared(
     comparison: Comparison,
-    a: Result<Value, Reason>,
-    b: Result<Value, Reason>,
-) -> Result<Value, Reason>
+    a: Result<Value, FaultReason>,
+    b: Result<Value, FaultReason>,
+) -> Result<Value, FaultReason>
     ensures { result ≡ compared comparison a b }
 {
     match a {
@@ -110,7 +110,7 @@ pub fn evaluate(
     rank: u32,
     size: u32,
     values: &[Option<Value>],
-) -> Result<Value, Reason>
+) -> Result<Value, FaultReason>
     ensures { result ≡ expression_value expression.now rank size values.now }
 {
     match expression {

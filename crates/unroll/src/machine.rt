@@ -5,8 +5,8 @@ ghost use Rattle.unroll.specs.Labels.{is_left_out, without};
 ghost use Rattle.unroll.specs.parts.Runs.{HasOutcome, seen_run, faulty};
 ghost use Rattle.unroll.specs.Runs.{call_put, guarded, guarded_request, left, left_request, assigned, turn_begun, loop_finished, set_value};
 
-use crate::call::{Call, Fault, Label, LeftOut, Meeting, Placed, Turn, is_for};
-use crate::value::{Reason, Value};
+use crate::call::{UnrolledCall, Fault, Label, LeftOut, Meeting, Placed, Turn, is_for};
+use crate::value::{FaultReason, Value};
 use std::alloc::{AllocError, AllocFailed, Global};
 
 /// A rank, from 0, of so many, whether each collective call is a barrier, and how many calls and
@@ -64,7 +64,7 @@ impl<T: Drop> From<AllocFailed<T>> for Stop {
 }
 
 /// What is wrong here.
-pub(crate) fn faulty(machine: &Machine, scope: Scope, line: u32, reason: Reason) -> Stop
+pub(crate) fn faulty(machine: &Machine, scope: Scope, line: u32, reason: FaultReason) -> Stop
     ensures { result ≡ faulty scope line reason (seen_run machine.now) }
 {
     Stop::Faulty(Fault {
@@ -76,11 +76,11 @@ pub(crate) fn faulty(machine: &Machine, scope: Scope, line: u32, reason: Reason)
 }
 
 /// Makes one call more, unless there are as many as may be.
-pub(crate) fn put(machine: &mut Machine, scope: Scope, line: u32, call: Call) -> Result<(), Stop>
+pub(crate) fn put(machine: &mut Machine, scope: Scope, line: u32, call: UnrolledCall) -> Result<(), Stop>
     ensures { HasOutcome result (call_put scope line call (seen_run machine.old)) (seen_run machine.new) }
 {
     if machine.calls.len() as u64 >= scope.most_calls {
-        return Err(faulty(machine, scope, line, Reason::TooManyCalls));
+        return Err(faulty(machine, scope, line, FaultReason::TooManyCalls));
     }
     machine.calls.push(Placed {
         rank: scope.rank,
@@ -116,7 +116,7 @@ pub(crate) fn guard(
     ensures { HasOutcome result (guarded scope line handle label (seen_run machine.now)) (seen_run machine.now) }
 {
     if is_left_out(&machine.left_out, handle, label) {
-        return Err(faulty(machine, scope, line, Reason::StillOpen { name: label.name }));
+        return Err(faulty(machine, scope, line, FaultReason::StillOpen { name: label.name }));
     }
     Ok(())
 }
@@ -196,7 +196,7 @@ pub(crate) fn begin(
     ensures { HasOutcome result (turn_begun scope line name outer value (seen_run machine.old)) (seen_run machine.new) }
 {
     if machine.turns.len() as u64 >= scope.most_turns {
-        return Err(faulty(machine, scope, line, Reason::TooManyTurns));
+        return Err(faulty(machine, scope, line, FaultReason::TooManyTurns));
     }
     let turn = machine.turns.len() as u64 + 1;
     machine.turns.push(Turn { outer, name, value })?;

@@ -6,8 +6,8 @@ ghost use Rattle.unroll.specs.Arguments.{scoped_number, found, some, tag_of, opt
 use crate::arithmetic::below;
 use crate::call::{Group, Label};
 use crate::expression::{evaluate, number_in};
-use crate::value::{Reason, Value};
-use spmd_tree::{Expression, GroupForm, Kind, LabelForm};
+use crate::value::{FaultReason, Value};
+use spmd_tree::{Expression, GroupForm, CollectiveKind, LabelForm};
 
 /// The number that the expression gives.
 pub(crate) fn number(
@@ -15,14 +15,14 @@ pub(crate) fn number(
     rank: u32,
     size: u32,
     values: &[Option<Value>],
-) -> Result<i64, Reason>
+) -> Result<i64, FaultReason>
     ensures { result ≡ scoped_number expression.now rank size values.now }
 {
     number_in(evaluate(expression, rank, size, values))
 }
 
 /// The number that was found, or else what is wrong.
-fn found(number: Option<u32>, reason: Reason) -> Result<u32, Reason>
+fn found(number: Option<u32>, reason: FaultReason) -> Result<u32, FaultReason>
     ensures { result ≡ found number reason }
 {
     match number {
@@ -32,7 +32,7 @@ fn found(number: Option<u32>, reason: Reason) -> Result<u32, Reason>
 }
 
 /// The number that was found, as one that may be missing.
-fn some(found: Result<u32, Reason>) -> Result<Option<u32>, Reason>
+fn some(found: Result<u32, FaultReason>) -> Result<Option<u32>, FaultReason>
     ensures { result ≡ some found }
 {
     match found {
@@ -47,12 +47,12 @@ pub(crate) fn tag(
     rank: u32,
     size: u32,
     values: &[Option<Value>],
-) -> Result<u32, Reason>
+) -> Result<u32, FaultReason>
     ensures { result ≡ tag_of expression.now rank size values.now }
 {
     match number(expression, rank, size, values) {
         Err(reason) => Err(reason),
-        Ok(tag) => found(below(tag, 32_768), Reason::TagRange { tag }),
+        Ok(tag) => found(below(tag, 32_768), FaultReason::TagRange { tag }),
     }
 }
 
@@ -62,7 +62,7 @@ pub(crate) fn optional_tag(
     rank: u32,
     size: u32,
     values: &[Option<Value>],
-) -> Result<Option<u32>, Reason>
+) -> Result<Option<u32>, FaultReason>
     ensures { result ≡ optional_tag expression.now rank size values.now }
 {
     match expression {
@@ -77,7 +77,7 @@ pub(crate) fn communicator(
     rank: u32,
     size: u32,
     values: &[Option<Value>],
-) -> Result<u32, Reason>
+) -> Result<u32, FaultReason>
     ensures { result ≡ scoped_communicator expression.now rank size values.now }
 {
     match expression {
@@ -86,20 +86,20 @@ pub(crate) fn communicator(
             Err(reason) => Err(reason),
             Ok(communicator) => found(
                 below(communicator, 128),
-                Reason::CommunicatorRange { communicator },
+                FaultReason::CommunicatorRange { communicator },
             ),
         },
     }
 }
 
 /// The rank that a value is, or none for `null`.
-fn peered(value: Value, size: u32) -> Result<Option<u32>, Reason>
+fn peered(value: Value, size: u32) -> Result<Option<u32>, FaultReason>
     ensures { result ≡ peered value size }
 {
     match value {
         Value::Null => Ok(None),
-        Value::Number(peer) => some(found(below(peer, size), Reason::PeerRange { peer })),
-        Value::Truth(_) => Err(Reason::Kind),
+        Value::Number(peer) => some(found(below(peer, size), FaultReason::PeerRange { peer })),
+        Value::Truth(_) => Err(FaultReason::CollectiveKind),
     }
 }
 
@@ -109,7 +109,7 @@ pub(crate) fn peer(
     rank: u32,
     size: u32,
     values: &[Option<Value>],
-) -> Result<Option<u32>, Reason>
+) -> Result<Option<u32>, FaultReason>
     ensures { result ≡ peer_of expression.now rank size values.now }
 {
     match evaluate(expression, rank, size, values) {
@@ -124,7 +124,7 @@ pub(crate) fn source(
     rank: u32,
     size: u32,
     values: &[Option<Value>],
-) -> Result<Option<Option<u32>>, Reason>
+) -> Result<Option<Option<u32>>, FaultReason>
     ensures { result ≡ scoped_source expression.now rank size values.now }
 {
     match expression {
@@ -143,14 +143,14 @@ fn index(
     rank: u32,
     size: u32,
     values: &[Option<Value>],
-) -> Result<Option<u32>, Reason>
+) -> Result<Option<u32>, FaultReason>
     ensures { result ≡ index_of expression.now rank size values.now }
 {
     match expression {
         None => Ok(None),
         Some(expression) => match number(expression, rank, size, values) {
             Err(reason) => Err(reason),
-            Ok(index) => some(found(below(index, 100_000), Reason::IndexRange { index })),
+            Ok(index) => some(found(below(index, 100_000), FaultReason::IndexRange { index })),
         },
     }
 }
@@ -161,7 +161,7 @@ pub(crate) fn label(
     rank: u32,
     size: u32,
     values: &[Option<Value>],
-) -> Result<Label, Reason>
+) -> Result<Label, FaultReason>
     ensures { result ≡ label_of form.now rank size values.now }
 {
     match index(&form.index, rank, size, values) {
@@ -179,7 +179,7 @@ pub(crate) fn optional_label(
     rank: u32,
     size: u32,
     values: &[Option<Value>],
-) -> Result<Option<Label>, Reason>
+) -> Result<Option<Label>, FaultReason>
     ensures { result ≡ optional_label form.now rank size values.now }
 {
     match form {
@@ -197,12 +197,12 @@ fn member(
     rank: u32,
     size: u32,
     values: &[Option<Value>],
-) -> Result<u32, Reason>
+) -> Result<u32, FaultReason>
     ensures { result ≡ scoped_rank expression.now rank size values.now }
 {
     match number(expression, rank, size, values) {
         Err(reason) => Err(reason),
-        Ok(peer) => found(below(peer, size), Reason::PeerRange { peer }),
+        Ok(peer) => found(below(peer, size), FaultReason::PeerRange { peer }),
     }
 }
 
@@ -212,7 +212,7 @@ pub(crate) fn root(
     rank: u32,
     size: u32,
     values: &[Option<Value>],
-) -> Result<Option<u32>, Reason>
+) -> Result<Option<u32>, FaultReason>
     ensures { result ≡ root_of expression.now rank size values.now }
 {
     match expression {
@@ -222,14 +222,14 @@ pub(crate) fn root(
 }
 
 /// A step that is above 0.
-fn stepped(number: Option<u32>, step: i64) -> Result<u32, Reason>
+fn stepped(number: Option<u32>, step: i64) -> Result<u32, FaultReason>
     ensures { result ≡ stepped number step }
 {
     match number {
-        None => Err(Reason::GroupStep { step }),
+        None => Err(FaultReason::GroupStep { step }),
         Some(number) => {
             if number == 0 {
-                return Err(Reason::GroupStep { step });
+                return Err(FaultReason::GroupStep { step });
             }
             Ok(number)
         }
@@ -242,7 +242,7 @@ fn step(
     rank: u32,
     size: u32,
     values: &[Option<Value>],
-) -> Result<u32, Reason>
+) -> Result<u32, FaultReason>
     ensures { result ≡ scoped_step expression.now rank size values.now }
 {
     match expression {
@@ -260,7 +260,7 @@ pub(crate) fn group(
     rank: u32,
     size: u32,
     values: &[Option<Value>],
-) -> Result<Group, Reason>
+) -> Result<Group, FaultReason>
     ensures { result ≡ group_of form.now rank size values.now }
 {
     match form {
@@ -285,7 +285,7 @@ pub(crate) fn collective_communicator(
     rank: u32,
     size: u32,
     values: &[Option<Value>],
-) -> Result<u32, Reason>
+) -> Result<u32, FaultReason>
     ensures { result ≡ collective_communicator expression.now rank size values.now }
 {
     match expression {
@@ -293,7 +293,7 @@ pub(crate) fn collective_communicator(
         Some(expression) => match number(expression, rank, size, values) {
             Err(reason) => Err(reason),
             Ok(communicator) => match below(communicator, 128) {
-                None => Err(Reason::CommunicatorRange { communicator }),
+                None => Err(FaultReason::CommunicatorRange { communicator }),
                 Some(own) => Ok(128 + own),
             },
         },

@@ -5,19 +5,19 @@ ghost use Rattle.unroll.specs.parts.Runs.{HasOutcome, seen_run};
 ghost use Rattle.unroll.specs.Runs.{call_put, matched, sent, received, matched_probed, probed, joined_call, put_optional, perform};
 
 use crate::arguments::Prepared;
-use crate::call::{Call, Label};
+use crate::call::{UnrolledCall, Label};
 use crate::collecting::perform_collective;
 use crate::machine::{Machine, Scope, Stop, guard, guard_request, leave, leave_request, put};
 use crate::members::root_in;
 use crate::waiting::{perform_matched, perform_wait};
-use spmd_tree::Mode;
+use spmd_tree::SendMode;
 
 /// Makes a send, or leaves it out where its destination is `null`.
 fn perform_send(
     machine: &mut Machine,
     scope: Scope,
     line: u32,
-    mode: Mode,
+    mode: SendMode,
     request: Option<Label>,
     destination: Option<u32>,
     tag: u32,
@@ -29,7 +29,7 @@ fn perform_send(
     let Some(destination) = destination else {
         return leave_request(machine, line, request);
     };
-    let call = Call::Send {
+    let call = UnrolledCall::Send {
         mode,
         request,
         destination,
@@ -55,7 +55,7 @@ fn perform_receive(
     let Some(source) = source else {
         return leave_request(machine, line, request);
     };
-    let call = Call::Receive {
+    let call = UnrolledCall::Receive {
         request,
         source,
         tag,
@@ -80,7 +80,7 @@ fn perform_matched_probe(
     let Some(source) = source else {
         return leave(machine, line, true, handle);
     };
-    let call = Call::MatchedProbe {
+    let call = UnrolledCall::MatchedProbe {
         handle,
         source,
         tag,
@@ -103,7 +103,7 @@ fn perform_probe(
     let Some(source) = source else {
         return Ok(());
     };
-    let call = Call::Probe {
+    let call = UnrolledCall::Probe {
         source,
         tag,
         communicator,
@@ -119,13 +119,13 @@ fn joined(
     source: Option<Option<u32>>,
     receive_tag: Option<u32>,
     communicator: u32,
-) -> Option<Call>
+) -> Option<UnrolledCall>
     ensures { result ≡ joined_call destination send_tag source receive_tag communicator }
 {
     match destination {
         None => match source {
             None => None,
-            Some(source) => Some(Call::Receive {
+            Some(source) => Some(UnrolledCall::Receive {
                 request: None,
                 source,
                 tag: receive_tag,
@@ -133,14 +133,14 @@ fn joined(
             }),
         },
         Some(destination) => match source {
-            None => Some(Call::Send {
-                mode: Mode::Standard,
+            None => Some(UnrolledCall::Send {
+                mode: SendMode::Standard,
                 request: None,
                 destination,
                 tag: send_tag,
                 communicator,
             }),
-            Some(source) => Some(Call::SendReceive {
+            Some(source) => Some(UnrolledCall::SendReceive {
                 destination,
                 send_tag,
                 source,
@@ -156,7 +156,7 @@ fn put_optional(
     machine: &mut Machine,
     scope: Scope,
     line: u32,
-    call: Option<Call>,
+    call: Option<UnrolledCall>,
 ) -> Result<(), Stop>
     ensures { HasOutcome result (put_optional scope line call (seen_run machine.old)) (seen_run machine.new) }
 {

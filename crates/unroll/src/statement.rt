@@ -11,9 +11,9 @@ use crate::expression::{evaluate, truth_in};
 use crate::machine::{Machine, Scope, Stop, assign, begin, faulty, finish};
 use crate::parts::{label, number};
 use crate::performing::perform;
-use crate::value::{Reason, Value};
+use crate::value::{FaultReason, Value};
 use crate::waiting::wait_part;
-use spmd_tree::{Arguments, Expression, LabelForm, Labels, Statement};
+use spmd_tree::{Arguments, Expression, LabelForm, Labels, SpmdStatement};
 
 /// Where a loop stands: the value of its variable, and the last value.
 #[derive(Clone, Copy)]
@@ -48,7 +48,7 @@ fn truth(
     rank: u32,
     size: u32,
     values: &[Option<Value>],
-) -> Result<bool, Reason>
+) -> Result<bool, FaultReason>
     ensures { result ≡ truth_of condition.now rank size values.now }
 {
     truth_in(evaluate(condition, rank, size, values))
@@ -61,7 +61,7 @@ fn span_of(
     rank: u32,
     size: u32,
     values: &[Option<Value>],
-) -> Result<Span, Reason>
+) -> Result<Span, FaultReason>
     ensures { result ≡ span_of first.now last.now rank size values.now }
 {
     let value = number(first, rank, size, values)?;
@@ -129,7 +129,7 @@ fn parameter(
         return Ok(());
     }
     match otherwise {
-        None => Err(faulty(machine, scope, line, Reason::NoSetting { name })),
+        None => Err(faulty(machine, scope, line, FaultReason::NoSetting { name })),
         Some(value) => assignment(machine, scope, line, name, value),
     }
 }
@@ -185,24 +185,24 @@ fn wait_each(
 
 /// Does what the statement says. A loop evaluates its ends once, and counts its turns with those of
 /// all other loops and ranks.
-pub(crate) fn run(machine: &mut Machine, scope: Scope, statement: &Statement) -> Result<(), Stop>
+pub(crate) fn run(machine: &mut Machine, scope: Scope, statement: &SpmdStatement) -> Result<(), Stop>
     ensures { HasOutcome result (meaning statement.now scope (seen_run machine.old)) (seen_run machine.new) }
 {
     match statement {
-        Statement::Nothing => Ok(()),
-        Statement::Sequence(a, b) => {
+        SpmdStatement::Nothing => Ok(()),
+        SpmdStatement::Sequence(a, b) => {
             run(machine, scope, a)?;
             run(machine, scope, b)
         }
-        Statement::Parameter {
+        SpmdStatement::Parameter {
             line,
             name,
             otherwise,
         } => parameter(machine, scope, *line, *name, otherwise),
-        Statement::Assign { line, name, value } => {
+        SpmdStatement::Assign { line, name, value } => {
             assignment(machine, scope, *line, *name, value)
         }
-        Statement::When {
+        SpmdStatement::When {
             line,
             chained: _,
             condition,
@@ -218,8 +218,8 @@ pub(crate) fn run(machine: &mut Machine, scope: Scope, statement: &Statement) ->
                 }
             }
         },
-        Statement::Otherwise(a) => run(machine, scope, a),
-        Statement::Repeat {
+        SpmdStatement::Otherwise(a) => run(machine, scope, a),
+        SpmdStatement::Repeat {
             line,
             name,
             first,
@@ -257,10 +257,10 @@ pub(crate) fn run(machine: &mut Machine, scope: Scope, statement: &Statement) ->
                 finish(machine, *name, outer);
                 return Ok(());
             }
-            Err(faulty(machine, scope, *line, Reason::TooManyTurns))
+            Err(faulty(machine, scope, *line, FaultReason::TooManyTurns))
         }
-        Statement::Call { line, arguments } => call(machine, scope, *line, arguments),
-        Statement::WaitAll { line, requests } => wait_each(machine, scope, *line, true, requests),
-        Statement::Unreached { line } => Err(faulty(machine, scope, *line, Reason::ErrorReached)),
+        SpmdStatement::Call { line, arguments } => call(machine, scope, *line, arguments),
+        SpmdStatement::WaitAll { line, requests } => wait_each(machine, scope, *line, true, requests),
+        SpmdStatement::Unreached { line } => Err(faulty(machine, scope, *line, FaultReason::ErrorReached)),
     }
 }

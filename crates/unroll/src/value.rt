@@ -13,7 +13,7 @@ pub enum Value {
 
 /// What is wrong on a line. Names are places, from 0, in the list of the text's names.
 #[derive(Clone, Copy)]
-pub enum Reason {
+pub enum FaultReason {
     /// The name has no value there.
     NoValue { name: u32 },
     /// The parameter has neither a setting nor a value of its own.

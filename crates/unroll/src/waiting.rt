@@ -4,7 +4,7 @@ ghost use Rattle.std.specs.Prelude.{◌≡◌, IfOk};
 ghost use Rattle.unroll.specs.parts.Runs.{HasOutcome, seen_run};
 ghost use Rattle.unroll.specs.Runs.{call_put, matched, waited, wait_part, still_first};
 
-use crate::call::{Call, Label};
+use crate::call::{UnrolledCall, Label};
 use crate::machine::{Machine, Scope, Stop, forget, is_left_out, leave_request, put};
 
 /// Receives on a handle. Where its matched probe was left out the receive is left out too, and its
@@ -26,7 +26,7 @@ pub(crate) fn perform_matched(
         machine,
         scope,
         line,
-        Call::MatchedReceive { request, handle },
+        UnrolledCall::MatchedReceive { request, handle },
     )
 }
 
@@ -43,7 +43,7 @@ pub(crate) fn perform_wait(
         forget(&mut machine.left_out, false, request);
         return Ok(());
     }
-    put(machine, scope, line, Call::Wait { request })
+    put(machine, scope, line, UnrolledCall::Wait { request })
 }
 
 /// Waits for one request of several, unless its start was left out; then answers whether the next
@@ -63,9 +63,9 @@ pub(crate) fn wait_part(
         return Ok(first);
     }
     if first {
-        put(machine, scope, line, Call::WaitAll { request })?;
+        put(machine, scope, line, UnrolledCall::WaitAll { request })?;
     } else {
-        put(machine, scope, line, Call::WaitAlso { request })?;
+        put(machine, scope, line, UnrolledCall::WaitAlso { request })?;
     }
     Ok(false)
 }

@@ -8,14 +8,14 @@ ghost use Rattle.unroll.specs.Whole.{IsUnrolled, IsFailure, refused};
 use crate::call::{Fault, Placed, Turn};
 use crate::machine::{Machine, Scope, Stop};
 use crate::statement::run;
-use crate::value::{Reason, Value};
-use spmd_tree::Statement;
+use crate::value::{FaultReason, Value};
+use spmd_tree::SpmdStatement;
 use std::alloc::Global;
 
 /// How many calls and how many turns of loops all ranks together may make. With 2^64 - 1 calls
 /// memory alone is the limit; a text whose loops make no calls is held by the limit of turns.
 #[derive(Clone, Copy)]
-pub struct Limits {
+pub struct UnrollLimits {
     pub calls: u64,
     pub turns: u64,
 }
@@ -42,7 +42,7 @@ pub enum Refusal {
 fn run_rank(
     machine: &mut Machine,
     scope: Scope,
-    program: &Statement,
+    program: &SpmdStatement,
     settings: &[Option<Value>],
 ) -> Result<(), Stop>
     ensures { HasOutcome result (rank_run program.now settings.now scope (seen_run machine.old)) (seen_run machine.new) }
@@ -59,7 +59,7 @@ fn run_rank(
             rank: scope.rank,
             line: left_out.line,
             turn: left_out.turn,
-            reason: Reason::NeverEnded {
+            reason: FaultReason::NeverEnded {
                 name: left_out.label.name,
             },
         })),
@@ -83,11 +83,11 @@ fn refused(stop: Stop, turns: Vec<Turn>) -> Refusal
 /// first, as ranks rise, statements follow one another, and arguments stand from left to right.
 pub fn unroll(
     alloc: Global,
-    program: &Statement,
+    program: &SpmdStatement,
     settings: &[Option<Value>],
     size: u32,
     barriers: bool,
-    limits: Limits,
+    limits: UnrollLimits,
 ) -> Result<Unrolled, Refusal>
     ensures ok { IfOk result (λ unrolled. IsUnrolled unrolled (text_run program.now settings.now size barriers limits.calls limits.turns)) }
     ensures err { IfErr result (λ refusal. IsFailure refusal (text_run program.now settings.now size barriers limits.calls limits.turns)) }

@@ -4,8 +4,8 @@ use Rattle.std.specs.List.{AllByRecursion}
 use Rattle.plaintext.specs.TextLines.{text_lines}
 use Rattle.plaintext.specs.Plain.{line_of}
 use Rattle.calltext.specs.declared.call.CallLine.{CallLine}
-use Rattle.calltext.specs.declared.line.LineFault.{LineFault}
-use Rattle.calltext.specs.declared.line.LineFault.TheVariants as wrong
+use Rattle.calltext.specs.declared.line.CallLineFault.{CallLineFault}
+use Rattle.calltext.specs.declared.line.CallLineFault.TheVariants as wrong
 use Rattle.calltext.specs.Grammar.{rank_words, rank_lines, CallFits}
 use Rattle.calltext.specs.parts.Item.{IsWrong}
 use Rattle.calltext.specs.declared.limits.Limits.{Limits}
@@ -18,7 +18,7 @@ pub record HasRanks (l : Limits) (total : ℕ) (bytes : List ℕ) (ranks : List 
 
 -- The lines begin as those of these ranks, and then comes a line, of this number, that is wrong
 -- there.
-pub record StopsAt (l : Limits) (fault : LineFault) (number total : ℕ) (bytes : List ℕ) : Type 0 where
+pub record StopsAt (l : Limits) (fault : CallLineFault) (number total : ℕ) (bytes : List ℕ) : Type 0 where
   pub done : List (List CallLine)
   pub line : List ℕ
   pub after : List (List ℕ)
@@ -31,6 +31,6 @@ pub record StopsAt (l : Limits) (fault : LineFault) (number total : ℕ) (bytes 
   pub early : line ≡ [] → length done < total
 
 -- Reading the ranks stopped for this reason: want of memory, or a line that is wrong.
-abbrev pub IsStopped : Limits → LineFault → ℕ → ℕ → List ℕ → Type 0
+abbrev pub IsStopped : Limits → CallLineFault → ℕ → ℕ → List ℕ → Type 0
 IsStopped l wrong.Memory number total bytes = ⊤
 IsStopped l fault number total bytes = StopsAt l fault number total bytes

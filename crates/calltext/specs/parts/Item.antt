@@ -9,8 +9,8 @@ use Rattle.calltext.specs.declared.call.CallLine.{CallLine}
 use Rattle.calltext.specs.declared.call.Policy.{Policy}
 use Rattle.calltext.specs.declared.line.Item.{Item}
 use Rattle.calltext.specs.declared.line.Item.TheVariants as items
-use Rattle.calltext.specs.declared.line.LineFault.{LineFault}
-use Rattle.calltext.specs.declared.line.LineFault.TheVariants as wrong
+use Rattle.calltext.specs.declared.line.CallLineFault.{CallLineFault}
+use Rattle.calltext.specs.declared.line.CallLineFault.TheVariants as wrong
 use Rattle.calltext.specs.declared.limits.Limits.{Limits}
 
 -- ---- once the first rank has begun
@@ -25,7 +25,7 @@ abbrev pub IsRefused : ℕ → List ℕ → Type 0
 IsRefused place line = (place < length refused_words) × (others : List (List ℕ)) × (line ≡ line_of (refused_word place ∷ others))
 
 -- Why the line is neither a call's within the limits nor the next rank's heading.
-abbrev pub IsWrong : Limits → LineFault → ℕ → ℕ → List ℕ → Type 0
+abbrev pub IsWrong : Limits → CallLineFault → ℕ → ℕ → List ℕ → Type 0
 IsWrong l wrong.Memory next total line = ⊤
 IsWrong l wrong.NotAscii next total line = IsNotAscii line
 IsWrong l wrong.Syntax next total line = IsAscii line × ((c : CallLine) → HasNames c → line_of (call_words c) ≢ line) × (next < total → line_of (rank_words next) ≢ line) × ((place : ℕ) → IsRefused place line → ⊥)
@@ -51,13 +51,13 @@ abbrev pub IsFirstRankLine : List ℕ → Type 0
 IsFirstRankLine line = line_of (rank_words 0) ≡ line
 
 -- What is wrong with a line that lacks its LF.
-abbrev pub IsUnended : LineFault → List ℕ → Type 0
+abbrev pub IsUnended : CallLineFault → List ℕ → Type 0
 IsUnended wrong.NotAscii line = IsNotAscii line
 IsUnended wrong.Syntax line = IsAscii line
 IsUnended other line = ⊥
 
 -- What is wrong with a line that is to have this shape, within these limits.
-abbrev pub IsWrongHeading : (List ℕ → Type 0) → (List ℕ → Type 0) → LineFault → List ℕ → Type 0
+abbrev pub IsWrongHeading : (List ℕ → Type 0) → (List ℕ → Type 0) → CallLineFault → List ℕ → Type 0
 IsWrongHeading shape within wrong.Memory line = ⊤
 IsWrongHeading shape within wrong.NotAscii line = IsNotAscii line
 IsWrongHeading shape within wrong.Syntax line = IsAscii line × (shape line → ⊥)
@@ -65,5 +65,5 @@ IsWrongHeading shape within (wrong.OutOfProfile place) line = ⊥
 IsWrongHeading shape within wrong.Range line = IsAscii line × shape line × (within line → ⊥)
 
 -- The bytes' first line is wrong in this way.
-abbrev pub BeginsWrong : (List ℕ → Type 0) → (List ℕ → Type 0) → LineFault → List ℕ → Type 0
+abbrev pub BeginsWrong : (List ℕ → Type 0) → (List ℕ → Type 0) → CallLineFault → List ℕ → Type 0
 BeginsWrong shape within fault bytes = (line : List ℕ) × (after : List (List ℕ)) × (text_lines bytes ≡ line ∷ after) × IsWrongHeading shape within fault line

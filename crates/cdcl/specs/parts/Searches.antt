@@ -4,8 +4,8 @@ use Rattle.std.specs.List.{list_all}
 use Rattle.clauses.specs.Clauses.{Literal, Conjunction, makes_true, satisfies, value_of}
 use Rattle.cdcl.specs.declared.search.Ending.{Ending}
 use Rattle.cdcl.specs.declared.search.Ending.TheVariants.{Closed, Model, Budget, Memory}
-use Rattle.cdcl.specs.declared.search.Step.{Step}
-use Rattle.cdcl.specs.declared.search.Step.TheVariants.{Going, Spent, Last, Ended}
+use Rattle.cdcl.specs.declared.search.SearchStep.{SearchStep}
+use Rattle.cdcl.specs.declared.search.SearchStep.TheVariants.{Going, Spent, Last, Ended}
 
 -- the budget isn't what ended it
 abbrev pub IsNotBudget : Ending → Type 0
@@ -15,7 +15,7 @@ IsNotBudget Budget = ⊥
 IsNotBudget Memory = Unit {0}
 
 -- where the step ends the search, the ending is so
-abbrev pub IfEnded : (Ending → Type 0) → Step → Type 0
+abbrev pub IfEnded : (Ending → Type 0) → SearchStep → Type 0
 IfEnded P Going = Unit {0}
 IfEnded P Spent = Unit {0}
 IfEnded P (Last ending) = P ending

@@ -9,10 +9,10 @@ use Rattle.callorder.specs.Programs.{MpiProgram, call_at}
 use Rattle.scene.specs.declared.acts.Act.{Act}
 use Rattle.scene.specs.declared.acts.Act.TheVariants.{Issue, Match, See}
 use Rattle.scene.specs.Labels.{Label}
-use Rattle.charts.specs.declared.placing.Placed.{Placed}
+use Rattle.charts.specs.declared.placing.PlacedAct.{PlacedAct}
 use Rattle.charts.specs.declared.placing.Shared.{Shared}
 use Rattle.charts.specs.declared.placing.Row.{Row}
-use Rattle.charts.specs.declared.placing.Columns.{Columns}
+use Rattle.charts.specs.declared.placing.StepColumns.{StepColumns}
 use Rattle.charts.specs.Columns.{ArePlacedInOrder, column_of, wait_line}
 
 abbrev pub empty_row : Row
@@ -77,7 +77,7 @@ IsKnown p calls rows issues column (Issue c b) = AreIssuedBefore p calls rows c 
 IsKnown p calls rows issues column (Match s t) = IsPast p rows s column × IsPast p rows t column
 IsKnown p calls rows issues column (See s f) = IsPast p rows s column × IsPast p rows f column
 
-abbrev pub IsKnownStep : MpiProgram → List Label → List Row → List ℕ → Placed → Type 0
+abbrev pub IsKnownStep : MpiProgram → List Label → List Row → List ℕ → PlacedAct → Type 0
 IsKnownStep p calls rows issues step = IsKnown p calls rows issues step.column step.act
 
 -- waits share a column that is not free
@@ -92,20 +92,20 @@ IsFindAct send finder (See s f) = (s ≡ send) × (f ≡ finder)
 
 -- The steps so far stand in so many columns; rows and issues, of which there are as many as ranks
 -- and calls, are known.
-pub record ArePlaced (p : MpiProgram) (calls : List Label) (rows : List Row) (issues : List ℕ) (count : ℕ) (steps : List Placed) : Type 0 where
+pub record ArePlaced (p : MpiProgram) (calls : List Label) (rows : List Row) (issues : List ℕ) (count : ℕ) (steps : List PlacedAct) : Type 0 where
   pub program : IsProgramWithin long p
   pub all_rows : length rows ≡ p.ranks
   pub all_issues : length issues ≡ length p.calls
   pub each_row : (rank : ℕ) → SharesNoFreeColumn (row_at rows rank)
   pub known : All (IsKnownStep p calls rows issues) steps
   pub issued : (c : ℕ) → slice_index issues c ≡ column_of steps c
-  pub within : All (λ (step : Placed). step.column < count) steps
+  pub within : All (λ (step : PlacedAct). step.column < count) steps
   pub order : AllPairs (ArePlacedInOrder p calls) steps
 
-abbrev pub ArePlacedIn : MpiProgram → List Label → Columns → Type 0
+abbrev pub ArePlacedIn : MpiProgram → List Label → StepColumns → Type 0
 ArePlacedIn p calls columns = ArePlaced p calls columns.rows.items columns.issues.items columns.count columns.steps.items
 
 -- one more step is placed
-pub record HasPlaced (p : MpiProgram) (calls : List Label) (old : Columns) (act : Act) (new : Columns) : Type 0 where
+pub record HasPlaced (p : MpiProgram) (calls : List Label) (old : StepColumns) (act : Act) (new : StepColumns) : Type 0 where
   pub placed : ArePlacedIn p calls new
-  pub acts : map (λ (step : Placed). step.act) new.steps.items ≡ map (λ (step : Placed). step.act) old.steps.items ++ act ∷ []
+  pub acts : map (λ (step : PlacedAct). step.act) new.steps.items ≡ map (λ (step : PlacedAct). step.act) old.steps.items ++ act ∷ []

@@ -6,7 +6,7 @@ use Rattle.calltext.specs.declared.call.Mode.TheVariants.{Standard, Synchronous,
 use Rattle.callorder.specs.Programs.{MpiProgram}
 use Rattle.semantics.specs.Machine.{Configuration}
 use Rattle.races.specs.Tells.{Table, knows_at, tells_find, tells_fetch, never_buffers}
-use Rattle.clocks.specs.declared.reads.Found.{Found}
+use Rattle.clocks.specs.declared.reads.DoneOperation.{DoneOperation}
 use Rattle.clocks.specs.declared.reads.Read.{Read}
 
 -- whatever the first rule tells, by any table, the second one does
@@ -24,7 +24,7 @@ tells_find_at e knows None f = false
 tells_find_at e knows (Some t) f = tells_find e knows t f
 
 -- what it tells that a finder has found, and that the receive on its handle is issued
-abbrev pub tells_found : Configuration → Table → Found → ℕ → Bool
+abbrev pub tells_found : Configuration → Table → DoneOperation → ℕ → Bool
 tells_found e knows found f = tells_find_at e knows found.finder f || knows_at knows found.receive f
 
 -- what it tells besides that the call before is issued

@@ -6,7 +6,7 @@ use Rattle.callorder.specs.declared.calls.Message.{Message}
 use Rattle.callorder.specs.declared.calls.Pattern.{Pattern}
 use Rattle.callorder.specs.Calls.{message_of, pattern_of}
 use Rattle.callorder.specs.Programs.{MpiProgram, call_at}
-use Rattle.leastrun.specs.declared.slot.Form.{Form}
+use Rattle.leastrun.specs.declared.slot.PatternForm.{PatternForm}
 
 abbrev pub mix : ℕ → ℕ → ℕ
 mix one other = ((one * 11400714819323198485) % 2 ^ 64 + other) % 2 ^ 64
@@ -25,13 +25,13 @@ abbrev pub named : Bool → ℕ → Option ℕ
 named true number = Some number
 named false number = None
 
-abbrev pub slot_of_message : Form → ℕ → Option Message → Option ℕ
+abbrev pub slot_of_message : PatternForm → ℕ → Option Message → Option ℕ
 slot_of_message form rank None = None
 slot_of_message form rank (Some message) =
     Some (slot_of message.destination message.communicator (named form.source rank) (named form.tag message.tag))
 
 -- the slot of a send in this form
-abbrev pub send_slot : Form → Call → Option ℕ
+abbrev pub send_slot : PatternForm → Call → Option ℕ
 send_slot form call = slot_of_message form call.rank (message_of call.kind)
 
 abbrev pub slot_of_pattern : ℕ → Option Pattern → Option ℕ
@@ -43,17 +43,17 @@ abbrev pub finder_slot : Call → Option ℕ
 finder_slot call = slot_of_pattern call.rank (pattern_of call.kind)
 
 -- which of its source and its tag the pattern names
-abbrev pub form_of : Pattern → Form
+abbrev pub form_of : Pattern → PatternForm
 form_of pattern = record { source = is_some pattern.source; tag = is_some pattern.tag }
 
-abbrev pub Lists : List Form → Form → Type 0
+abbrev pub Lists : List PatternForm → PatternForm → Type 0
 Lists forms form = (i : ℕ) × (slice_get forms i ≡ Some form)
 
 -- the new list has what the old one has, and the pattern's form
-pub record ListsMore (old new : List Form) (pattern : Option Pattern) : Type 0 where
-  pub kept : (form : Form) → Lists old form → Lists new form
+pub record ListsMore (old new : List PatternForm) (pattern : Option Pattern) : Type 0 where
+  pub kept : (form : PatternForm) → Lists old form → Lists new form
   pub more : (x : Pattern) → pattern ≡ Some x → Lists new (form_of x)
 
 -- the form of each receive, matched probe and probe is listed
-abbrev pub HasForms : MpiProgram → List Form → Type 0
+abbrev pub HasForms : MpiProgram → List PatternForm → Type 0
 HasForms p forms = (c : ℕ) (call : Call) (x : Pattern) → call_at p c ≡ Some call → pattern_of call.kind ≡ Some x → Lists forms (form_of x)

@@ -11,22 +11,22 @@ use Rattle.run_laws.specs.Laws.{IsOpenPair}
 use Rattle.run_laws.specs.Places.{find_step}
 use Rattle.leastrun.specs.declared.walk.Buffering.{Buffering}
 use Rattle.leastrun.specs.declared.walk.Buffering.TheVariants.{Least, Most}
-use Rattle.leastrun.specs.declared.slot.Form.{Form}
-use Rattle.leastrun.specs.declared.rows.Rows.{Rows}
+use Rattle.leastrun.specs.declared.slot.PatternForm.{PatternForm}
+use Rattle.leastrun.specs.declared.rows.SlotRows.{SlotRows}
 use Rattle.leastrun.specs.declared.tables.Tables.{Tables}
 use Rattle.leastrun.specs.parts.Slots.{send_slot, finder_slot, HasForms}
 use Rattle.leastrun.specs.parts.Queues.{row, StandsIn}
 
 -- a send stands in the row of each of these forms
-abbrev pub IsSendIn : List Form → Rows → Call → ℕ → Type 0
-IsSendIn forms rows call c = (i q : ℕ) (form : Form) → slice_get forms i ≡ Some form → send_slot form call ≡ Some q → StandsIn rows q c
+abbrev pub IsSendIn : List PatternForm → SlotRows → Call → ℕ → Type 0
+IsSendIn forms rows call c = (i q : ℕ) (form : PatternForm) → slice_get forms i ≡ Some form → send_slot form call ≡ Some q → StandsIn rows q c
 
 -- a finder stands in its row
-abbrev pub IsFinderIn : Rows → Call → ℕ → Type 0
+abbrev pub IsFinderIn : SlotRows → Call → ℕ → Type 0
 IsFinderIn rows call c = (q : ℕ) → finder_slot call ≡ Some q → StandsIn rows q c
 
 -- what stands in a row is issued, and calls of one rank stand there in their order
-pub record AreInOrder (p : MpiProgram) (m : Configuration) (rows : Rows) : Type 0 where
+pub record AreInOrder (p : MpiProgram) (m : Configuration) (rows : SlotRows) : Type 0 where
   pub issued : (q i e : ℕ) → slice_get (row rows q) i ≡ Some e → is_issued p m e ≡ true
   pub ordered : (q i j d e : ℕ) → slice_get (row rows q) i ≡ Some d → slice_get (row rows q) j ≡ Some e → i < j → are_of_one_rank p d e ≡ true → d ≤ e
 
@@ -54,11 +54,11 @@ abbrev pub NoMateAmong : MpiProgram → Configuration → List ℕ → ℕ → T
 NoMateAmong p m entries c = (i e : ℕ) → slice_get entries i ≡ Some e → is_mate p m c e ≡ false
 
 -- a mate of the call, and the earliest one of its rank in the slot's row
-pub record IsLeastIn (p : MpiProgram) (m : Configuration) (rows : Rows) (q c other : ℕ) : Type 0 where
+pub record IsLeastIn (p : MpiProgram) (m : Configuration) (rows : SlotRows) (q c other : ℕ) : Type 0 where
   pub mate : is_mate p m c other ≡ true
   pub least : (y : ℕ) → is_mate p m c y ≡ true → StandsIn rows q y → are_of_one_rank p y other ≡ true → other ≤ y
 
-abbrev pub NoMateIn : MpiProgram → Configuration → Rows → ℕ → ℕ → Type 0
+abbrev pub NoMateIn : MpiProgram → Configuration → SlotRows → ℕ → ℕ → Type 0
 NoMateIn p m rows q c = (y : ℕ) → is_mate p m c y ≡ true → StandsIn rows q y → ⊥
 
 abbrev pub lesser : Option ℕ → Option ℕ → Option ℕ

@@ -3,8 +3,8 @@ use Rattle.std.specs.Prelude.{◌≡◌, ℕ, ◌-◌, ◌≤◌, pos, Bool, tru
 use Rattle.std.specs.List.{list_all, list_any}
 use Rattle.std.specs.Global.{Vec}
 use Rattle.spmd_tree.specs.declared.tree.Expression.{Expression}
-use Rattle.spmd_tree.specs.declared.tree.Statement.{Statement}
-use Rattle.spmd_tree.specs.declared.tree.Statement.TheVariants as statement
+use Rattle.spmd_tree.specs.declared.tree.SpmdStatement.{SpmdStatement}
+use Rattle.spmd_tree.specs.declared.tree.SpmdStatement.TheVariants as statement
 use Rattle.spmd_text.specs.declared.fault.ParseReason.{ParseReason}
 use Rattle.spmd_text.specs.declared.fault.ParseReason.TheVariants.{Memory}
 use Rattle.spmd_text.specs.declared.lines.Span.{Span}
@@ -14,7 +14,7 @@ use Rattle.spmd_text.specs.declared.piece.Word.TheVariants as word
 use Rattle.spmd_text.specs.declared.piece.Piece.{Piece}
 use Rattle.spmd_text.specs.declared.piece.Piece.TheVariants as piece
 use Rattle.spmd_text.specs.declared.piece.Token.{Token}
-use Rattle.spmd_text.specs.declared.reading.Policy.{Policy}
+use Rattle.spmd_text.specs.declared.reading.SpmdPolicy.{SpmdPolicy}
 use Rattle.spmd_text.specs.Limits.{IsTreeWithin}
 use Rattle.spmd_text.specs.Spelling.{after_piece, after_end, after_head, after_parameter, after_span, after_statement, after_variable, word_of_policy}
 use Rattle.spmd_text.specs.Rules.{IfThere}
@@ -125,7 +125,7 @@ pub record IsSpmdPolicyLine (levels : List Level) (line : List Token) (next : Li
   pub outer : List Level
   pub here : levels ≡ level ∷ outer
   pub second : level.block ≡ headed
-  pub policy : Policy
+  pub policy : SpmdPolicy
   pub spelled : after_piece piece.LineEnd (after_piece (piece.Word (word_of_policy policy)) (after_piece (piece.Word word.Policy) (Some line))) ≡ Some []
   pub is : next ≡ with_block listed level ∷ outer
 
@@ -148,7 +148,7 @@ pub record IsSimpleLine (levels : List Level) (line : List Token) (next : List L
   pub outer : List Level
   pub here : levels ≡ level ∷ outer
   pub begun : takes_statement level.block ≡ true
-  pub statement : Statement
+  pub statement : SpmdStatement
   pub simple : is_simple (first_word statement) ≡ true
   pub may : MayOne level.scope level.depth statement
   pub spelled : after_statement statement (Some line) ≡ Some []
@@ -279,14 +279,14 @@ goes_on (piece.Word word.Else) = true
 goes_on _ = false
 
 -- an `elif` or `else` may stand behind this one
-abbrev pub is_open_tail : Statement → Bool
+abbrev pub is_open_tail : SpmdStatement → Bool
 is_open_tail (statement.When' line k c p a q b) = is_open_tail b
 is_open_tail (statement.Otherwise' p a) = false
 is_open_tail s = true
 
 -- The statements of a branch, and this behind them, end here: no `elif` or `else` comes that might
 -- stand there.
-pub record EndsBranch (s : Parser) (tail : Statement) : Type 0 where
+pub record EndsBranch (s : Parser) (tail : SpmdStatement) : Type 0 where
   pub ends : is_end (next s) ≡ true
   pub closed : is_open_tail tail ≡ true → goes_on (next s) ≡ false
 

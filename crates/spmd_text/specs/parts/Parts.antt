@@ -1,8 +1,8 @@
 -- What inner functions promise one another, beside `specs/Rules.antt`.
 use Rattle.std.specs.Prelude.{◌≡◌, ℕ, ◌≤◌, Bool, true, false, ◌&&◌, not, List, length, Option, Some, None, is_some}
 use Rattle.std.specs.Global.{Vec}
-use Rattle.spmd_tree.specs.declared.tree.Mode.TheVariants.{Standard, Synchronous, Buffered}
-use Rattle.spmd_tree.specs.declared.tree.Kind.TheVariants as kind
+use Rattle.spmd_tree.specs.declared.tree.SendMode.TheVariants.{Standard, Synchronous, Buffered}
+use Rattle.spmd_tree.specs.declared.tree.CollectiveKind.TheVariants as kind
 use Rattle.spmd_tree.specs.declared.tree.Expression.{Expression}
 use Rattle.spmd_tree.specs.declared.tree.LabelForm.{LabelForm}
 use Rattle.spmd_tree.specs.declared.tree.GroupForm.{GroupForm}

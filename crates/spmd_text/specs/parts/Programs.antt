@@ -2,14 +2,14 @@
 use Rattle.std.specs.Prelude.{◌≡◌, ◌⊎◌, ℕ, ◌≤◌, Bool, true, false, ◌&&◌, List, [], ◌∷◌, ◌++◌, length, Option, Some, None}
 use Rattle.std.specs.Global.{Vec}
 use Rattle.spmd_tree.specs.declared.tree.Expression.{Expression}
-use Rattle.spmd_tree.specs.declared.tree.Statement.{Statement}
-use Rattle.spmd_tree.specs.declared.tree.Statement.TheVariants as statement
+use Rattle.spmd_tree.specs.declared.tree.SpmdStatement.{SpmdStatement}
+use Rattle.spmd_tree.specs.declared.tree.SpmdStatement.TheVariants as statement
 use Rattle.spmd_text.specs.declared.fault.ParseReason.TheVariants.{Memory}
 use Rattle.spmd_text.specs.declared.parser.Parser.{Parser}
 use Rattle.spmd_text.specs.declared.piece.Word.TheVariants as word
 use Rattle.spmd_text.specs.declared.piece.Piece.TheVariants as piece
 use Rattle.spmd_text.specs.declared.piece.Token.{Token}
-use Rattle.spmd_text.specs.declared.reading.Policy.{Policy}
+use Rattle.spmd_text.specs.declared.reading.SpmdPolicy.{SpmdPolicy}
 use Rattle.spmd_text.specs.parts.Joints.{stops}
 use Rattle.spmd_text.specs.Limits.{IsTreeWithin}
 use Rattle.spmd_text.specs.parts.Reading.{Finds, Sticks, first_noted}
@@ -50,17 +50,17 @@ AddsParameter old new name =
     ((new ≡ record old { parameters = new.parameters }) × (new.parameters.items ≡ old.parameters.items ++ name ∷ []))
     ⊎ (new ≡ record old { parameters = new.parameters; fault = first_noted old.fault Memory })
 
-abbrev pub is_parameter : Statement → Bool
+abbrev pub is_parameter : SpmdStatement → Bool
 is_parameter (statement.Parameter line name e) = true
 is_parameter _ = false
 
 -- one parameter, behind those of these names
-pub record MayParameter (names : List ℕ) (s : Statement) : Type 0 where
+pub record MayParameter (names : List ℕ) (s : SpmdStatement) : Type 0 where
   pub one : is_parameter s ≡ true
   pub obeys : ObeyParameters names s
 
 -- a parameter behind its word, which stands on this line
-abbrev pub parameter_part : List ℕ → ℕ → SyntaxPart Statement
+abbrev pub parameter_part : List ℕ → ℕ → SyntaxPart SpmdStatement
 parameter_part names line = record {
   behind = λ s rest. after_statement s (put_back line word.Param rest);
   May = MayParameter names;
@@ -69,12 +69,12 @@ parameter_part names line = record {
 }
 
 -- The parameter is read, and its name is added.
-pub record ReadsParameter (old new : Parser) (line : ℕ) (found : Statement) : Type 0 where
+pub record ReadsParameter (old new : Parser) (line : ℕ) (found : SpmdStatement) : Type 0 where
   pub goes : GrowsByParameters old new (parameters_of found)
   pub meets : Meets (parameter_part old.parameters.items line) old new found
 
 -- parameters behind those of these names, and which names they add
-abbrev pub parameters_part : List ℕ → SyntaxPart Statement
+abbrev pub parameters_part : List ℕ → SyntaxPart SpmdStatement
 parameters_part names = record {
   behind = after_statement;
   May = ObeyParameters names;
@@ -83,7 +83,7 @@ parameters_part names = record {
 }
 
 -- The parameters are read, and their names are added.
-pub record ReadsParameters (old new : Parser) (found : Statement) : Type 0 where
+pub record ReadsParameters (old new : Parser) (found : SpmdStatement) : Type 0 where
   pub goes : GrowsByParameters old new (parameters_of found)
   pub meets : Meets (parameters_part old.parameters.items) old new found
 
@@ -93,7 +93,7 @@ is_all_read (t ∷ []) = is_piece piece.TextEnd t.piece
 is_all_read _ = false
 
 -- the whole text, up to its end
-abbrev pub text_part : List (Vec ℕ) → SyntaxPart (Policy × Statement)
+abbrev pub text_part : List (Vec ℕ) → SyntaxPart (SpmdPolicy × SpmdStatement)
 text_part names = record {
   behind = λ both rest. after_statement both.1 (heading_part.behind both.0 rest);
   May = λ both. ObeysText names both.1;

@@ -1,6 +1,6 @@
 -- What inner functions promise one another, beside `specs/Runs.antt`.
 use Rattle.std.specs.Prelude.{◌≡◌, ℕ, Result, Ok, Err}
-use Rattle.unroll.specs.declared.value.Reason.{Reason}
+use Rattle.unroll.specs.declared.value.FaultReason.{FaultReason}
 use Rattle.unroll.specs.declared.machine.Scope.{Scope}
 use Rattle.unroll.specs.declared.machine.Machine.{Machine}
 use Rattle.unroll.specs.declared.machine.Stop.{Stop}
@@ -10,7 +10,7 @@ use Rattle.unroll.specs.Runs.{Done, Failed, Outcome, TextRun, fault_on_line}
 abbrev pub seen_run : Machine → TextRun
 seen_run m = record { values = m.values.items; left_out = m.left_out.items; met = m.met.items; calls = m.calls.items; turns = m.turns.items; turn = m.turn }
 
-abbrev pub faulty : Scope → ℕ → Reason → TextRun → Stop
+abbrev pub faulty : Scope → ℕ → FaultReason → TextRun → Stop
 faulty scope line why run = Faulty (fault_on_line scope line why run)
 
 -- stopping so, with this run left, is this outcome; out of memory nothing is said

@@ -1,7 +1,7 @@
 use Rattle.std.proofs.Common.{◌≡◌, ◌<◌, ◌∙◌, ℕ, List, Option, Some, None, map, get_or, length, ap, sym, subst}
 use Rattle.callorder.specs.declared.calls.Call.{Call}
 use Rattle.callorder.specs.Programs.{MpiProgram}
-use Rattle.balance.specs.declared.channels.Address.{Address}
+use Rattle.balance.specs.declared.channels.ChannelAddress.{ChannelAddress}
 use Rattle.balance.specs.Balance.{channel_at}
 use Rattle.balance.specs.parts.Wildcards.{channel_address_of, AreWild, AreNumbersOfNames}
 use Rattle.balance.proofs.Leaving.{none_at, some_at, one_listed}
@@ -20,7 +20,7 @@ loop-place-preserved c =
     let place = c.loop-place.place in
     let p = c.args.program.now in
     let q = with_calls p calls in
-    let numbered : AreNumbersOfNames (map channel_address_of calls) numbers = subst (λ (z : List (Option Address)). AreNumbersOfNames z numbers) c.in_ok-addresses.ensures c.in_ok-numbers.ensures in
+    let numbered : AreNumbersOfNames (map channel_address_of calls) numbers = subst (λ (z : List (Option ChannelAddress)). AreNumbersOfNames z numbers) c.in_ok-addresses.ensures c.in_ok-numbers.ensures in
     let loose : AreWild calls (map channel_address_of calls) numbers table = subst (λ (z : List (Option ℕ)). AreWild calls (map channel_address_of calls) z table) c.deref.ensures.value c.in_ok-table.ensures in
     let back = ap (λ (z : List Call). channel_at (with_calls p z) place) c.calls-calls.ensures.value in
     let items = c.deref-number-items.ensures.value in

@@ -1,6 +1,6 @@
 use Rattle.std.proofs.Common.{◌≡◌, ℕ, ◌++◌, List, length, slice_index, ap, ◌∙◌}
 use Rattle.std.specs.List.{flat_map}
-use Rattle.charts.specs.declared.placing.Placed.{Placed}
+use Rattle.charts.specs.declared.placing.PlacedAct.{PlacedAct}
 use Rattle.charts.specs.Chart.{columns}
 use Rattle.charts.specs.Cuts.{undrawn_text}
 use Rattle.charts.specs.Picture.{arc_at, arrow_of, box_of, rank_row, top}
@@ -21,7 +21,7 @@ returns c =
     (c.in_ok-put_top.ensures ∙ ap (λ (ranks : ℕ). c.args.out.now.items ++ top c.args.well ranks cols.count) ranks_are)
     c.in_ok-put_undrawn_text.ensures
     c.in_ok-put_rows.ensures
-    (c.in_ok-put_boxes.ensures ∙ ap (λ (steps : List Placed). c.put_rows.new.out.items ++ flat_map (box_of p c.args.end.now calls cols.count) steps) c.deref.ensures.value)
+    (c.in_ok-put_boxes.ensures ∙ ap (λ (steps : List PlacedAct). c.put_rows.new.out.items ++ flat_map (box_of p c.args.end.now calls cols.count) steps) c.deref.ensures.value)
     (c.in_ok-put_arrows.ensures ∙ ap (λ (ranks : ℕ). c.put_boxes.new.out.items ++ flat_map (arrow_of ranks calls cols.count at marks) cols.steps.items) ranks_are)
     (c.in_ok-put_arcs.ensures ∙ ap (λ (ranks : ℕ). c.put_arrows.new.out.items ++ columns (arc_at ranks cols.count cycle) (length cycle)) ranks_are)
     c.in_ok-put_text.ensures

@@ -3,7 +3,7 @@ use Rattle.std.specs.List.{filter, flat_map}
 use Rattle.candidates.specs.Pairs.{pairs_of, pair_at}
 use Rattle.nonovertake.specs.Earlier.{earlier_sends, earlier_takers}
 use Rattle.formula.specs.declared.facts.Fact.TheVariants.{Matched as matched}
-use Rattle.formula.specs.declared.facts.Event.TheVariants.{Match as match_of}
+use Rattle.formula.specs.declared.facts.RunEvent.TheVariants.{Match as match_of}
 use Rattle.formula.specs.declared.facts.Statement.TheVariants.{Fails as is_false, Earlier as is_earlier}
 use Rattle.formula.specs.Families.{issued_before_match, seen_before_taken, without_later_sends, send_is_matched_before, taker_is_matched_before, pair_does_not_wait}
 use Rattle.formula_families.proofs.Adding.{then_more}

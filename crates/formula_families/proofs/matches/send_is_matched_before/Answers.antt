@@ -1,7 +1,7 @@
 use Rattle.std.proofs.Common.{◌∷◌, [], ◌++◌, map, ap, ◌∙◌, not, ◌==◌}
 use Rattle.std.specs.List.{filter}
 use Rattle.formula.specs.declared.facts.Fact.TheVariants.{Matched as matched}
-use Rattle.formula.specs.declared.facts.Event.TheVariants.{Match as match_of}
+use Rattle.formula.specs.declared.facts.RunEvent.TheVariants.{Match as match_of}
 use Rattle.formula.specs.declared.facts.Statement.TheVariants.{Holds as is_true, Fails as is_false, Earlier as is_earlier}
 use Rattle.formula_families.proofs.Adding.{clause_then}
 use Rattle.formula_families.proofs.matches.send_is_matched_before.Goals as goal

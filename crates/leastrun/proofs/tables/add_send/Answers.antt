@@ -2,7 +2,7 @@ use Rattle.std.proofs.Common.{◌≡◌, ◌<◌, ℕ, Some, None, Option, slice
 use Rattle.std.proofs.lemmas.Bool.{cases_eq}
 use Rattle.std.proofs.lemmas.Option.{slice_get_within, slice_get-get_or}
 use Rattle.races.proofs.Steps.{same_some}
-use Rattle.leastrun.specs.declared.slot.Form.{Form}
+use Rattle.leastrun.specs.declared.slot.PatternForm.{PatternForm}
 use Rattle.leastrun.specs.parts.Slots.{send_slot}
 use Rattle.leastrun.specs.parts.Queues.{StandsIn}
 use Rattle.leastrun.proofs.Queued.{grown_more, added_here, added_there}
@@ -22,7 +22,7 @@ loop-place-preserved c =
         | inl same ↦
             let here : slice_get forms place ≡ Some form = ap (slice_get forms) (sym same) ∙ listed in
             let alike = same_form form _ (sym here ∙ slice_get-get_or forms place _ c.loop-place-test.true) in
-            let is : c.in-Some.slot ≡ q = same_some c.in-Some.slot q (sym slot_is ∙ ap (λ (z : Form). send_slot z known) (sym alike) ∙ slot) in
+            let is : c.in-Some.slot ≡ q = same_some c.in-Some.slot q (sym slot_is ∙ ap (λ (z : PatternForm). send_slot z known) (sym alike) ∙ slot) in
             subst (λ (z : ℕ). StandsIn c.add.new.self z call) is (added_here c.loop-place.sends c.add.new.self c.in-Some.slot call c.in_ok-add.ensures)
         | inr differ ↦ added_there c.loop-place.sends c.add.new.self c.in-Some.slot call q call c.in_ok-add.ensures (c.loop-place.invariant.there i q form (omega (arith, low, differ)) listed slot)
       ];

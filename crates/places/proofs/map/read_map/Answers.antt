@@ -1,6 +1,6 @@
 use Rattle.std.proofs.Common.{rules, ◌+◌, Option, ◌≡◌, ◌∙◌, ◌++◌, ◌∷◌, [], ℕ, List, true, false, ◌==◌, ap, refl, sym, arith, codes, length}
 use Rattle.std.specs.Prelude.{slice_get}
-use Rattle.places.specs.declared.entries.Entry.{Entry}
+use Rattle.places.specs.declared.entries.MapEntry.{MapEntry}
 use Rattle.plaintext.specs.TextLines.{text_lines}
 use Rattle.places.proofs.Faults.{false_true}
 use Rattle.places.proofs.Mapping.{none_there}
@@ -26,7 +26,7 @@ loop-line-init c =
     read_none c.args.text.now c.args.map.now c.in_ok-rest.rest.now c.in_ok-entries.entries.items
     (c.in_ok-rest.ensures.ok ∙ ap (λ (l : List ℕ). (codes "map 1" ++ 10 ∷ []) ∷ (l ++ 10 ∷ []) ∷ text_lines c.in_ok-rest.rest.now) (c.as_bytes.ensures.value ∙ c.in_ok-heading.ensures))
     c.in_ok-rest.ensures.shorter
-    (λ m entry there. none_there (c.line_count.result + 1) m entry (sym (ap (λ (l : List (Option Entry)). slice_get l m) (all (search rules))) ∙ there))
+    (λ m entry there. none_there (c.line_count.result + 1) m entry (sym (ap (λ (l : List (Option MapEntry)). slice_get l m) (all (search rules))) ∙ there))
     (omega (arith, c.in_ok-entries.entries.ok.0, n, c.line_count.ensures.count))
 
 pub returns-then-not-put_line-clause-fault : goal.returns-then-not-put_line-clause-fault

@@ -1,7 +1,7 @@
 -- The page is that of the answer which was found.
 use Rattle.std.proofs.Common.{IfOk, List, ℕ, Result, Ok, Err}
 use Rattle.std.specs.declared.alloc.AllocError.{AllocError}
-use Rattle.deciding.specs.declared.decision.Race.{Race}
+use Rattle.deciding.specs.declared.decision.CallerRace.{CallerRace}
 use Rattle.prover.specs.Answers.{IsAnswer, FinishesIfUnknown}
 use Rattle.prover.specs.declared.answer.Answer.{Answer}
 use Rattle.options.specs.declared.form.Form.{Form}
@@ -9,7 +9,7 @@ use Rattle.session.specs.Explaining.{IsAnswerPage, IsSearched}
 use Rattle.session.specs.declared.page.Page.{Page}
 use Rattle.session.proofs.explained.searched_page.Goals as goal
 
-searched : (r : Result Page AllocError) (budget : ℕ) (form : Form) (program : List ℕ) (race : Race) (a : Answer) → IsAnswer program a → FinishesIfUnknown budget program a
+searched : (r : Result Page AllocError) (budget : ℕ) (form : Form) (program : List ℕ) (race : CallerRace) (a : Answer) → IsAnswer program a → FinishesIfUnknown budget program a
     → IfOk r (λ page. IsAnswerPage form program race a page.text.items page.status) → IfOk r (λ page. IsSearched budget form program race page.text.items page.status)
 searched (Ok page) budget form program race a answers finishes is = (a, answers, finishes, is)
 searched (Err e) budget form program race a answers finishes is = is

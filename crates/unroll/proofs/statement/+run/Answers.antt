@@ -1,5 +1,5 @@
 use Rattle.std.proofs.Common.{◌≡◌, ℕ, suc, ◌+◌, ◌-◌, Some, None, ap, sym, subst, ◌∙◌, arith}
-use Rattle.spmd_tree.specs.declared.tree.Statement.{Statement}
+use Rattle.spmd_tree.specs.declared.tree.SpmdStatement.{SpmdStatement}
 use Rattle.unroll.specs.parts.Runs.{Stops, seen_run}
 use Rattle.unroll.specs.Runs.{TextRun, Outcome, Done}
 use Rattle.unroll.specs.Statements.{meaning}
@@ -33,7 +33,7 @@ returns-in-Err-run t c =
     let whole : Outcome = meaning c.args.statement.now c.args.scope (seen_run c.args.machine.now) in
     turn_fails n m body c.args.scope c.in-Repeat.line c.in-Repeat.name c.in-Repeat.step c.args.machine.now.turn c.loop-turn.span (seen_run c.loop-turn.machine) (seen_run c.begin_turn.new.machine) whole c.in-Err-run.stop (seen_run c.run-in-loop-turn.new.machine)
     c.loop-turn.invariant more (sym c.if-is_over.ensures) c.in-Ok-begin_turn.ensures
-    (subst (λ (b : Statement). Stops c.in-Err-run.stop (meaning b c.args.scope (seen_run c.begin_turn.new.machine)) (seen_run c.run-in-loop-turn.new.machine)) c.deref-in-loop-turn.ensures c.in-Err-run.ensures)
+    (subst (λ (b : SpmdStatement). Stops c.in-Err-run.stop (meaning b c.args.scope (seen_run c.begin_turn.new.machine)) (seen_run c.run-in-loop-turn.new.machine)) c.deref-in-loop-turn.ensures c.in-Err-run.ensures)
 
 pub returns-in-None : goal.returns-in-None
 returns-in-None t c =
@@ -44,7 +44,7 @@ returns-in-None t c =
     let whole : Outcome = meaning c.args.statement.now c.args.scope (seen_run c.args.machine.now) in
     sym (turn_done n m body c.args.scope c.in-Repeat.line c.in-Repeat.name c.in-Repeat.step c.args.machine.now.turn c.loop-turn.span (seen_run c.loop-turn.machine) (seen_run c.begin_turn.new.machine) (seen_run c.run-in-loop-turn.new.machine) whole None
     c.loop-turn.invariant more (sym c.if-is_over.ensures) c.in-Ok-begin_turn.ensures
-    (subst (λ (b : Statement). meaning b c.args.scope (seen_run c.begin_turn.new.machine) ≡ Done (seen_run c.run-in-loop-turn.new.machine)) c.deref-in-loop-turn.ensures c.in-Ok-run.ensures)
+    (subst (λ (b : SpmdStatement). meaning b c.args.scope (seen_run c.begin_turn.new.machine) ≡ Done (seen_run c.run-in-loop-turn.new.machine)) c.deref-in-loop-turn.ensures c.in-Ok-run.ensures)
     c.in-None.ensures)
     ∙ ap Done (sym c.finish-in-None.ensures)
 
@@ -57,5 +57,5 @@ loop-turn-preserved t c =
     let whole : Outcome = meaning c.args.statement.now c.args.scope (seen_run c.args.machine.now) in
     turn_done n m body c.args.scope c.in-Repeat.line c.in-Repeat.name c.in-Repeat.step c.args.machine.now.turn c.loop-turn.span (seen_run c.loop-turn.machine) (seen_run c.begin_turn.new.machine) (seen_run c.run-in-loop-turn.new.machine) whole (Some c.in-Some.next)
     c.loop-turn.invariant more (sym c.if-is_over.ensures) c.in-Ok-begin_turn.ensures
-    (subst (λ (b : Statement). meaning b c.args.scope (seen_run c.begin_turn.new.machine) ≡ Done (seen_run c.run-in-loop-turn.new.machine)) c.deref-in-loop-turn.ensures c.in-Ok-run.ensures)
+    (subst (λ (b : SpmdStatement). meaning b c.args.scope (seen_run c.begin_turn.new.machine) ≡ Done (seen_run c.run-in-loop-turn.new.machine)) c.deref-in-loop-turn.ensures c.in-Ok-run.ensures)
     c.in-Some.ensures

@@ -4,7 +4,7 @@ use Rattle.std.specs.Prelude.{slice_get}
 use Rattle.plaintext.specs.Plain.{numeral}
 use Rattle.plaintext.proofs.Numerals.{numeral_injective}
 use Rattle.places.specs.Maps.{AreFrom, HasEntry}
-use Rattle.places.specs.declared.entries.Entry.{Entry}
+use Rattle.places.specs.declared.entries.MapEntry.{MapEntry}
 use Rattle.places.specs.declared.map.Places.{Places}
 use Rattle.places.proofs.Digits.{if_none}
 use Rattle.places.proofs.Faults.{false_true}
@@ -12,7 +12,7 @@ use Rattle.places.proofs.map.Places.words_at.Goals as goal
 
 -- the place of what the map has
 at_number : (places : Places) (map digits words : List ℕ) (number n : ℕ) → AreFrom map places → HasEntry map digits words → numeral n ≡ digits → number ≡ min n 2147483648
-    → (entry : Entry) × (slice_get places.entries.items number ≡ Some (Some entry)) × (entry.number.now ≡ digits)
+    → (entry : MapEntry) × (slice_get places.entries.items number ≡ Some (Some entry)) × (entry.number.now ≡ digits)
 at_number places map digits words number n are has is place =
     let (m, entry, there, small, spelled, said) = are.all digits words has in
     let same : n ≡ m = numeral_injective n m (is ∙ sym ((are.said m entry there).1 ∙ spelled)) in
@@ -36,4 +36,4 @@ returns-else-are_same-clause-none c = λ map words are has.
     let (entry, there, spelled) = at_number c.args.self.now map c.args.digits.now words c.in_ok-number.number found.0 are has found.1 found.2 in
     let both : Some (Some c.in_ok-entry.entry) ≡ Some (Some entry) = sym c.in_ok-entry.ensures.some ∙ there in
     let is : c.in_ok-entry.entry ≡ entry = cc in
-    false_true (c.if-are_same.ensures.1 (ap (λ (e : Entry). e.number.now) is ∙ spelled))
+    false_true (c.if-are_same.ensures.1 (ap (λ (e : MapEntry). e.number.now) is ∙ spelled))

@@ -5,7 +5,7 @@ use Rattle.charts.specs.declared.placing.Row.{Row}
 use Rattle.charts.specs.Columns.{wait_line}
 use Rattle.charts.specs.parts.Placing.{column_in, row_at, row_behind}
 use Rattle.charts.proofs.Placement.{acts_push, issue_placed, same_placed}
-use Rattle.charts.proofs.placing.Columns.place_issue.Goals as goal
+use Rattle.charts.proofs.placing.StepColumns.place_issue.Goals as goal
 
 pub returns : goal.returns
 returns c =

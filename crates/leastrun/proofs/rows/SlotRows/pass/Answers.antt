@@ -5,7 +5,7 @@ use Rattle.std.proofs.lemmas.Bool.{eqb-true}
 use Rattle.leastrun.specs.parts.Queues.{row_of, IsSkipped}
 use Rattle.leastrun.proofs.Entries.{nothing}
 use Rattle.leastrun.proofs.Queued.{passed_at}
-use Rattle.leastrun.proofs.rows.Rows.pass.Goals as goal
+use Rattle.leastrun.proofs.rows.SlotRows.pass.Goals as goal
 
 pub returns-else-is_empty : goal.returns-else-is_empty
 returns-else-is_empty c =

@@ -1,7 +1,7 @@
 use Rattle.std.proofs.Common.{sym, ap, ◌∙◌, arith}
 use Rattle.formula_tables.specs.Places.{first_place}
 use Rattle.formula_tables.proofs.Positions.{first_past}
-use Rattle.formula_tables.proofs.places.Places.first.Goals as goal
+use Rattle.formula_tables.proofs.places.FirstPlaces.first.Goals as goal
 
 pub returns : goal.returns
 returns c =

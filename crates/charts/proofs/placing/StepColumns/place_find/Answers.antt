@@ -2,7 +2,7 @@ use Rattle.std.proofs.Common.{◌≡◌, ℕ, ◌≤◌, ◌++◌, ◌∷◌, []
 use Rattle.std.specs.Global.{Vec}
 use Rattle.charts.specs.declared.placing.Row.{Row}
 use Rattle.charts.proofs.Placement.{acts_push, find_placed, same_placed}
-use Rattle.charts.proofs.placing.Columns.place_find.Goals as goal
+use Rattle.charts.proofs.placing.StepColumns.place_find.Goals as goal
 
 pub returns : goal.returns
 returns c =
