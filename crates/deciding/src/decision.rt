@@ -41,7 +41,7 @@ pub enum Decision {
     /// enabled.
     Deadlock(Vec<Step>),
     /// The run finishes, but messages may race for this call.
-    CallerRace(CallerRace),
+    Race(CallerRace),
 }
 
 /// The call at a place, where there is one.
@@ -59,7 +59,7 @@ fn caller_at(program: &LongProgram, place: usize) -> Option<Caller>
 }
 
 /// The race, with the ranks of its calls and what its finder found in the run that ended so.
-fn named_race(program: &LongProgram, state: &State, race: clocks::CallerRace) -> CallerRace
+fn named_race(program: &LongProgram, state: &State, race: clocks::Race) -> CallerRace
     requires rival { IsRival program.now state.now race }
     requires unordered { IsUnordered program.now state.now race }
     requires ended { EndsLeast program.now state.now }
@@ -103,7 +103,7 @@ pub fn judge_run(
     let _calls = program.calls();
     match first_race(alloc, program, &steps) {
         Ok(None) => Ok(Decision::NoDeadlock),
-        Ok(Some(race)) => Ok(Decision::CallerRace(named_race(program, state, race))),
+        Ok(Some(race)) => Ok(Decision::Race(named_race(program, state, race))),
         Err(AllocError) => Err(AllocError),
     }
 }

@@ -35,7 +35,7 @@ enum Below {
     /// Lemmas that were made, with the trail at level 0.
     Lemmas,
     /// This state.
-    MatchState(MatchState),
+    State(MatchState),
 }
 
 impl<'e> Explorer<'e> {
@@ -126,7 +126,7 @@ impl<'e> Explorer<'e> {
     ) -> Result<(), AllocError> {
         let literals = choose(alloc, &self.shape, self.engine.known.trail(), &state)?;
         if literals.is_empty() {
-            return self.push(Task::Learn(assumptions, Purpose::MatchState(key)));
+            return self.push(Task::Learn(assumptions, Purpose::State(key)));
         }
         let mut branches = Vec::new(alloc);
         let mut states = Vec::new(alloc);
@@ -187,7 +187,7 @@ impl<'e> Explorer<'e> {
         }
         let below = read_off(alloc, &self.shape, self.engine.known.trail(), state)?;
         self.engine.known.back(level);
-        Ok(Below::MatchState(below))
+        Ok(Below::State(below))
     }
 
     /// The same once no lemma is due there, unless that takes too many lines or rounds, or lemmas
@@ -237,7 +237,7 @@ impl<'e> Explorer<'e> {
             )? {
                 Below::Lemmas => return Ok(true),
                 Below::Conflict => None,
-                Below::MatchState(below) => {
+                Below::State(below) => {
                     let key = below.key();
                     states.push(below)?;
                     Some(key)

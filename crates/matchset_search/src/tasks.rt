@@ -27,7 +27,7 @@ pub(crate) struct Branching {
 #[derive(Drop)]
 pub(crate) enum Purpose {
     /// It closes the state with this key.
-    MatchState(Key),
+    State(Key),
     /// It is against the literal at this place of the branching that is finished next.
     Literal(usize),
     /// It closes the search.
@@ -64,7 +64,7 @@ impl Task {
     pub(crate) fn closing(&self) -> Option<(Key, &[LitIndex])> {
         match self {
             Task::Finish(branching) => { Some((branching.key, branching.assumptions.as_slice())) }
-            Task::Learn(literals, Purpose::MatchState(key)) => Some((*key, literals.as_slice())),
+            Task::Learn(literals, Purpose::State(key)) => Some((*key, literals.as_slice())),
             _ => None,
         }
     }

@@ -25,7 +25,7 @@ pub enum NotAPhase {
     Deadlock,
     /// The run finishes, but messages may race for this call, so that it tells nothing.
     #[error("race")]
-    CallerRace(CallerRace),
+    Race(CallerRace),
 }
 
 impl From<Undecided> for NotAPhase {

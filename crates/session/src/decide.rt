@@ -118,7 +118,7 @@ pub fn decision_line(
     match decided {
         Ok(Decision::NoDeadlock) => page_of(alloc, &Outcome::NoDeadlock, json),
         Ok(Decision::Deadlock(_steps)) => page_of(alloc, &Outcome::Deadlock, json),
-        Ok(Decision::CallerRace(race)) => race_page(alloc, text, *race, json),
+        Ok(Decision::Race(race)) => race_page(alloc, text, *race, json),
         Err(why) => page_of(alloc, &Outcome::from(*why), json),
     }
 }

@@ -137,7 +137,7 @@ fn decision_told<R: Threads + Wait + Sync>(
     match decision {
         Decision::NoDeadlock => sizes_page(alloc, text, form),
         Decision::Deadlock(steps) => run_page(rt, alloc, text, steps, form),
-        Decision::CallerRace(race) => searched_page(rt, alloc, text, *race, options, form),
+        Decision::Race(race) => searched_page(rt, alloc, text, *race, options, form),
     }
 }
 

@@ -76,7 +76,7 @@ pub(crate) fn simple(parser: &mut Parser<'_>, word: Word, line: u32) -> Made
         Word::Error => unreached(parser, line),
         Word::Waitall => wait_all(parser, line),
         Word::Param => refuse(parser, ParseReason::LateParameter),
-        Word::SpmdPolicy => refuse(parser, ParseReason::LatePolicy),
+        Word::Policy => refuse(parser, ParseReason::LatePolicy),
         _ => call(parser, word, line),
     }
 }
@@ -227,7 +227,7 @@ fn policy(parser: &mut Parser<'_>) -> SpmdPolicy
 pub(crate) fn policy_line(parser: &mut Parser<'_>) -> SpmdPolicy
     ensures { HasRead policy_line_part parser.old parser.new result }
 {
-    if !parser.take(Piece::Word(Word::SpmdPolicy)) {
+    if !parser.take(Piece::Word(Word::Policy)) {
         return SpmdPolicy::Any;
     }
     let policy = policy(parser);

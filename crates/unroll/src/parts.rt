@@ -99,7 +99,7 @@ fn peered(value: Value, size: u32) -> Result<Option<u32>, FaultReason>
     match value {
         Value::Null => Ok(None),
         Value::Number(peer) => some(found(below(peer, size), FaultReason::PeerRange { peer })),
-        Value::Truth(_) => Err(FaultReason::CollectiveKind),
+        Value::Truth(_) => Err(FaultReason::Kind),
     }
 }
 
