@@ -7,12 +7,12 @@ use Rattle.callorder.specs.Programs.{MpiProgram, are_fit}
 use Rattle.semantics.specs.Machine.{Configuration, is_issued, partner_of}
 use Rattle.races.specs.Blocks.{Blocks}
 use Rattle.races.specs.Tells.{Table, IsJustified}
-use Rattle.knowledge.specs.Knowledge.{column_table, entry_at, union}
+use Rattle.knowledge.specs.Knowledge.{column_table, entry_at, union, with_partners}
 use Rattle.knowledge.proofs.Less.{union_justified}
 use Rattle.std.specs.declared.alloc.AllocError.{AllocError}
 use Rattle.clocks.specs.declared.rows.Count.{Count}
 use Rattle.clocks.specs.declared.race.Race.{Race}
-use Rattle.clocks.specs.parts.Clocks.{Numbering, AreTold, IsChecked, IsSingle, with_partners}
+use Rattle.clocks.specs.parts.Clocks.{Numbering, AreTold, IsChecked, IsSingle}
 use Rattle.clocks.specs.Clocks.{IsNoRace, IsUnordered}
 use Rattle.clocks.specs.parts.Exact.{Asked, IsAsked, IsColumn, IsOrdered, IsUnorderedBy, KnowsNoMore, Extends, ShowsFrom}
 use Rattle.clocks.specs.parts.Finders.{IsListing, IsLookedAt, Listing, before_at}

@@ -12,7 +12,8 @@ use Rattle.callorder.specs.Programs.{MpiProgram, call_at, are_fit, are_of_one_ra
 use Rattle.semantics.specs.Machine.{Configuration, partner_of}
 use Rattle.races.specs.Blocks.{Blocks}
 use Rattle.clocks.specs.declared.finders.Reach.{Reach}
-use Rattle.clocks.specs.parts.Clocks.{Numbering, IsCount, IsSingle, with_partners}
+use Rattle.clocks.specs.parts.Clocks.{Numbering, IsCount, IsSingle}
+use Rattle.knowledge.specs.Knowledge.{with_partners}
 use Rattle.clocks.specs.Spans.{AreSpans}
 use Rattle.clocks.specs.parts.Finders.{CannotRace, before_at, IsAmong, AreListedUpTo, AreListed, IsNumbered, IsReach, AreReaches}
 use Rattle.clocks.proofs.Shown.{no_fellow, fits_within}

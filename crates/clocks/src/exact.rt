@@ -4,7 +4,7 @@
 ghost use Rattle.std.specs.Prelude.{◌≡◌, ℕ, Some, IfOk, OnOk, true, false, slice_get};
 ghost use Rattle.std.specs.Option.{unwrap_or};
 ghost use Rattle.callorder.specs.Programs.{MpiProgram};
-ghost use Rattle.clocks.specs.parts.Clocks.{with_partners};
+ghost use Rattle.knowledge.specs.Knowledge.{with_partners};
 ghost use Rattle.clocks.specs.parts.Exact.{IsAsked, IsOrdered, IsUnorderedBy};
 
 use callorder::LongProgram;

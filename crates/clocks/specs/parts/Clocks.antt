@@ -20,10 +20,6 @@ abbrev pub rounds : MpiProgram → Configuration → Table → ℕ → Table
 rounds p e knows zero c f = knows c f
 rounds p e knows (suc n) c f = tells_issue p e (rounds p e knows n) c f
 
--- a configuration with these partners
-abbrev pub with_partners : List (Option ℕ) → Configuration
-with_partners partners = record { next = []; buffered = []; partner = partners }
-
 -- Finders in a list: a finder's number is its place. For each column its first number.
 pub record Numbering : Type 0 where
   pub starts : List ℕ

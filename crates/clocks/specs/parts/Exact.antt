@@ -3,9 +3,9 @@ use Rattle.std.specs.Prelude.{◌≡◌, ℕ, Bool, false, IsTrue, List, Option,
 use Rattle.callorder.specs.Programs.{MpiProgram}
 use Rattle.semantics.specs.Machine.{Configuration}
 use Rattle.races.specs.Tells.{Table, IsJustified}
-use Rattle.knowledge.specs.Knowledge.{column_table}
+use Rattle.knowledge.specs.Knowledge.{column_table, with_partners}
 use Rattle.clocks.specs.declared.rows.Count.{Count}
-use Rattle.clocks.specs.parts.Clocks.{Numbering, AreTold, with_partners}
+use Rattle.clocks.specs.parts.Clocks.{Numbering, AreTold}
 
 -- the column of the finder that was asked for last, by these partners
 pub record Asked : Type 0 where

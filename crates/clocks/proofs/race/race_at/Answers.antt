@@ -1,5 +1,6 @@
 use Rattle.std.proofs.Common.{sym, ◌∙◌}
-use Rattle.clocks.specs.parts.Clocks.{block_of, with_partners}
+use Rattle.clocks.specs.parts.Clocks.{block_of}
+use Rattle.knowledge.specs.Knowledge.{with_partners}
 use Rattle.clocks.specs.parts.Finders.{IsLookedAt}
 use Rattle.clocks.proofs.Extending.{nothing_there, ordered_there, shown_there, shows_always}
 use Rattle.clocks.proofs.race.race_at.Goals as goal

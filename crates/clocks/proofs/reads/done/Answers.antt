@@ -1,4 +1,4 @@
-use Rattle.clocks.specs.parts.Clocks.{with_partners}
+use Rattle.knowledge.specs.Knowledge.{with_partners}
 use Rattle.clocks.proofs.Leading.{sent_leads}
 use Rattle.clocks.proofs.reads.done.Goals as goal
 

@@ -1,5 +1,5 @@
 use Rattle.std.proofs.Common.{◌-◌, sym, ◌∙◌, arith}
-use Rattle.clocks.specs.parts.Clocks.{with_partners}
+use Rattle.knowledge.specs.Knowledge.{with_partners}
 use Rattle.clocks.proofs.Leading.{read_leads}
 use Rattle.clocks.proofs.reads.read_for.Goals as goal
 

@@ -1,4 +1,4 @@
-use Rattle.clocks.specs.parts.Clocks.{with_partners}
+use Rattle.knowledge.specs.Knowledge.{with_partners}
 use Rattle.clocks.proofs.Adding.{adds_read}
 use Rattle.clocks.proofs.rows.add_read.Goals as goal
 

@@ -1,4 +1,5 @@
-use Rattle.clocks.specs.parts.Clocks.{level, with_partners}
+use Rattle.clocks.specs.parts.Clocks.{level}
+use Rattle.knowledge.specs.Knowledge.{with_partners}
 use Rattle.clocks.proofs.rows.nothing_known.Goals as goal
 
 pub returns : goal.returns

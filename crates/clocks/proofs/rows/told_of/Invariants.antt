@@ -1,4 +1,5 @@
-use Rattle.clocks.specs.parts.Clocks.{AreSound, with_partners}
+use Rattle.clocks.specs.parts.Clocks.{AreSound}
+use Rattle.knowledge.specs.Knowledge.{with_partners}
 use Rattle.clocks.proofs.rows.told_of.Given as goal
 
 abbrev pub invariant-loop-step : goal.invariant-loop-step
