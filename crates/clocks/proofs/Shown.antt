@@ -30,7 +30,7 @@ use Rattle.clocks.specs.Clocks.{IsNoRace, ShowsAll, HasNoRaceShown, IsRival}
 use Rattle.clocks.specs.Spans.{AreSpans}
 use Rattle.clocks.proofs.Members.{chain, name_below, named_from, spans_are_blocks}
 use Rattle.std.specs.Option.{unwrap_or}
-use Rattle.clocks.specs.parts.Clocks.{with_partners}
+use Rattle.knowledge.specs.Knowledge.{with_partners}
 use Rattle.clocks.proofs.Counts.{same_some}
 use Rattle.clocks.proofs.Looks.{checked_shows, checked_by, send_there}
 use Rattle.clocks.proofs.Levels.{level_justified, rounds_justified}
