@@ -121,7 +121,12 @@ fn loose_of(
 }
 
 /// The channel at an address where takers leave this open.
-fn channel_to(address: ChannelAddress, loose: TakerWildcards, source: Option<u32>, tag: Option<u32>) -> Channel
+fn channel_to(
+    address: ChannelAddress,
+    loose: TakerWildcards,
+    source: Option<u32>,
+    tag: Option<u32>,
+) -> Channel
     ensures { (p : MpiProgram) → IsWild p.calls address loose → result ≡ channel_to p address.destination address.communicator source tag }
 {
     Channel {

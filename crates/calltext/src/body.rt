@@ -10,7 +10,7 @@ ghost use Rattle.calltext.specs.declared.line.CallLineFault.TheVariants.{Memory}
 use crate::call::CallLine;
 use crate::heading::unended;
 use crate::limits::Limits;
-use crate::line::{Item, CallLineFault, item_of};
+use crate::line::{CallLineFault, Item, item_of};
 use plaintext::next_line;
 use std::alloc::{AllocError, AllocFailed, Global};
 use std::mem;

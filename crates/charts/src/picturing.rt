@@ -10,7 +10,7 @@ ghost use Rattle.charts.specs.Chart.{columns};
 ghost use Rattle.charts.specs.Picture.{IsPicture, IsRunToEnd, arc, arc_at, arc_between, arc_title, arrow_of, bar, bend, box, box_head, box_of, by_width, colour_of_call, colour_of_kind, dash_of, drawn_arrow, drawn_box, drawn_find, drawn_find_of, drawn_issue, drawn_issue_of, edge, end_words, escape, find_title, finished, head, hop, is_chosen, is_in, is_left_send, find_link, box_mark, name, name_colour, picture_at, rank_end, rank_row, row_head, straight, stroke_of, stub, tip_of, title, told_words, top, verb, waiting, waits_in, way, x_of, y_of};
 
 use crate::cutting::{behind, put_undrawn_text, undrawn};
-use crate::placing::{StepColumns, PlacedAct, columns_of, issued_in};
+use crate::placing::{PlacedAct, StepColumns, columns_of, issued_in};
 use callorder::{Call, Kind, LongProgram};
 use calltext::{LongSource, Mode};
 use scene::{Act, CallLabel, RunChoice, choices_of, is_large, play, scene_of, shortened};

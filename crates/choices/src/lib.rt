@@ -16,7 +16,7 @@ mod telling;
 mod weighing;
 mod wording;
 
-pub use items::{Choice, Decided, HangExtent, AskingLimits, ChoiceNeed, Weighed};
+pub use items::{AskingLimits, Choice, ChoiceNeed, Decided, HangExtent, Weighed};
 pub use laws::known_is_taken;
 pub use narrowing::ChoiceTaken;
 pub use pinning::with_choice;

@@ -1,6 +1,6 @@
 //! What decided a run, as a text.
 
-use crate::items::{Choice, Decided, HangExtent, ChoiceNeed, Weighed};
+use crate::items::{Choice, ChoiceNeed, Decided, HangExtent, Weighed};
 use crate::places::lines_of;
 use crate::wording::is_joined;
 use narrowing::ChoiceTaken;

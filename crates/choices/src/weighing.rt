@@ -9,7 +9,7 @@ ghost use Rattle.choices.specs.Weights.{AreWeighed, HangsWith, IsChoiceOf, IsWei
 
 use crate::asking::{Way, hangs_with, way_with};
 use crate::finding::choices_of;
-use crate::items::{Choice, Decided, AskingLimits, ChoiceNeed, Weighed};
+use crate::items::{AskingLimits, Choice, ChoiceNeed, Decided, Weighed};
 use crate::sufficing::choose;
 use callorder::LongProgram;
 use checker::{NoRun, Reason, stuck_run_of};

@@ -12,7 +12,7 @@ mod schedule;
 mod stages;
 mod texts;
 
-pub use decision::{Caller, Decision, CallerRace, decide_program, judge_run};
+pub use decision::{Caller, CallerRace, Decision, decide_program, judge_run};
 pub use laws::{
     justified_runs_are_decided, lone_senders_are_decided, named_sources_are_decided,
     short_texts_are_decided,

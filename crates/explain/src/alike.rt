@@ -69,7 +69,11 @@ fn join(
 /// The ranks that aren't finished, of those that wait for nobody, or of the others; those that wait
 /// alike in one group, in the order of their first ranks. There are few groups, as calls have few
 /// verbs.
-pub fn groups_of(alloc: Global, scene: &Scene<'_>, lack: bool) -> Result<Vec<AlikeRanks>, AllocError> {
+pub fn groups_of(
+    alloc: Global,
+    scene: &Scene<'_>,
+    lack: bool,
+) -> Result<Vec<AlikeRanks>, AllocError> {
     let mut groups: Vec<AlikeRanks> = Vec::new(alloc);
     for rank in 0..scene.program.ranks() {
         if scene.standing(rank) == Standing::Finished || scene.lacks(rank) != lack {

@@ -12,7 +12,7 @@ use crate::wording::{put_call_of, put_line, put_number_of, put_numbers};
 use callorder::LongProgram;
 use calltext::LongSource;
 use frequency::Frequency;
-use scene::{RunChoice, MOST_OF_LARGE, Parting, Scene, choices_of, needed, parting_of, scene_of};
+use scene::{MOST_OF_LARGE, Parting, RunChoice, Scene, choices_of, needed, parting_of, scene_of};
 use semantics::Step;
 use std::alloc::{AllocError, Global};
 use waits::{Standing, fitting, operation_of};

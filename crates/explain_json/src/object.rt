@@ -6,7 +6,7 @@ ghost use Rattle.frequency.specs.Frequencies.{IsFrequency};
 use callorder::LongProgram;
 use calltext::LongSource;
 use frequency::Frequency;
-use scene::{CallLabel, RunChoice, Parting, Scene, choices_of, part_word, parting_of, scene_of};
+use scene::{CallLabel, Parting, RunChoice, Scene, choices_of, part_word, parting_of, scene_of};
 use semantics::Step;
 use serde::Serialize;
 use serde_json::to_string;
@@ -240,7 +240,11 @@ fn numbers_of(alloc: Global, places: &[usize]) -> Result<Vec<usize>, AllocError>
 }
 
 /// A choice of a run.
-fn decision_of(alloc: Global, scene: &Scene<'_>, choice: &RunChoice) -> Result<Decision, AllocError> {
+fn decision_of(
+    alloc: Global,
+    scene: &Scene<'_>,
+    choice: &RunChoice,
+) -> Result<Decision, AllocError> {
     match choice {
         RunChoice::Buffered { step, send } => Ok(Decision {
             step: number_of(*step),

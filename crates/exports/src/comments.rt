@@ -13,7 +13,7 @@ use crate::events::event_at;
 use crate::words::{put_number, put_word};
 use callorder::Program;
 use encode::Encoded;
-use formula::{RunEvent, Fact, Meaning};
+use formula::{Fact, Meaning, RunEvent};
 use prooflog::find_word;
 use std::alloc::AllocError;
 

@@ -13,7 +13,7 @@ use crate::symbolic::Symbolic;
 use crate::{matches, returns};
 use callorder::Program;
 use calltext::Policy;
-use formula::{RunEvent, Fact, Family, Statement};
+use formula::{Fact, Family, RunEvent, Statement};
 use formula_tables::{ProgramTables, is_last, is_standard, previous, rank_of, when_returned};
 use std::alloc::{AllocError, Global};
 

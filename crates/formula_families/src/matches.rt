@@ -11,7 +11,7 @@ ghost use Rattle.formula.specs.Families.{sends_of, see_clauses, issued_before_ma
 
 use crate::lists::{push_sends, push_takers};
 use crate::symbolic::Symbolic;
-use formula::{RunEvent, Fact, Statement};
+use formula::{Fact, RunEvent, Statement};
 use formula_tables::ProgramTables;
 use std::alloc::{AllocError, Global};
 

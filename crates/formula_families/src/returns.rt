@@ -11,7 +11,7 @@ ghost use Rattle.formula.specs.Families.{fetch_of, receive_on_handle, where_fetc
 
 use crate::lists::{push_sends, push_takers};
 use crate::symbolic::Symbolic;
-use formula::{Condition, RunEvent, Fact, Statement};
+use formula::{Condition, Fact, RunEvent, Statement};
 use formula_tables::{ProgramTables, fetch_of, receive_on_handle, when_returned};
 use std::alloc::{AllocError, Global};
 

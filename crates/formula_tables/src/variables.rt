@@ -13,7 +13,7 @@ use crate::events::Events;
 use crate::places::FirstPlaces;
 use callorder::Program;
 use clauses::Lit;
-use formula::{RunEvent, Fact, Meaning, Statement};
+use formula::{Fact, Meaning, RunEvent, Statement};
 use std::alloc::{AllocError, Global};
 use std::marker::Model;
 

@@ -5,4 +5,4 @@
 mod escaping;
 mod report;
 
-pub use report::{TestOutcome, Report};
+pub use report::{Report, TestOutcome};

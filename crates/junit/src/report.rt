@@ -74,7 +74,12 @@ fn put_told(out: &mut Vec<u8>, outcome: TestOutcome, text: &[u8]) -> Result<(), 
 }
 
 /// Writes a test.
-fn put_case(out: &mut Vec<u8>, name: &str, outcome: TestOutcome, text: &[u8]) -> Result<(), AllocError>
+fn put_case(
+    out: &mut Vec<u8>,
+    name: &str,
+    outcome: TestOutcome,
+    text: &[u8],
+) -> Result<(), AllocError>
     ensures { OnOk result (out.new.items ≡ out.old.items ++ case_text (record { name = name.now; outcome = outcome; text = text.now })) }
 {
     put_text(out, "<testcase classname=\"mpiprove\" name=\"")?;

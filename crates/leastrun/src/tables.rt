@@ -25,7 +25,12 @@ pub struct Tables {
 }
 
 /// Adds a send to its rows, and leaves other calls out. The only error is want of memory.
-fn add_send(forms: &[PatternForm], sends: &mut SlotRows, known: &Call, call: usize) -> Result<(), AllocError>
+fn add_send(
+    forms: &[PatternForm],
+    sends: &mut SlotRows,
+    known: &Call,
+    call: usize,
+) -> Result<(), AllocError>
     ensures grown { OnOk result (IsGrown sends.old sends.new call) }
     ensures there { OnOk result (IsSendIn forms.now sends.new known.now call) }
 {

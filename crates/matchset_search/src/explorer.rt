@@ -9,7 +9,7 @@ use crate::tasks::Task;
 use cdcl::Solver;
 use clauses::Clause;
 use encode::Encoded;
-use matchsets::{Shape, MatchState, find_cycle, read_off};
+use matchsets::{MatchState, Shape, find_cycle, read_off};
 use propagation::{ClauseRef, LitIndex, Origin, indices_of};
 use refutations::Batch;
 use std::alloc::{AllocError, Global};

@@ -206,7 +206,13 @@ impl<'e> Explorer<'e> {
     }
 
     /// One step.
-    fn step(&mut self, alloc: Global, formula: &'e Formula, budget: u64, batch: &mut Batch) -> SearchStep
+    fn step(
+        &mut self,
+        alloc: Global,
+        formula: &'e Formula,
+        budget: u64,
+        batch: &mut Batch,
+    ) -> SearchStep
         ensures budget { IfEnded IsNotBudget result }
         ensures right { IfEnded (IsRight formula.now []) result }
     {

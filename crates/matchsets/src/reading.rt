@@ -2,7 +2,7 @@
 
 use crate::reality::which_are_real;
 use crate::shape::{CallShape, PairShape, RankShape, Role, Shape};
-use crate::state::{Progress, MatchState, ends_at};
+use crate::state::{MatchState, Progress, ends_at};
 use callorder::Policy;
 use propagation::Trail;
 use std::alloc::{AllocError, Global};
@@ -122,7 +122,12 @@ fn is_never_fetched(shape: &Shape<'_>, state: &MatchState, taker: &CallShape) ->
 
 /// Whether nothing rests any more on the partner by which the send returns: one that is never
 /// fetched lets nobody go on.
-fn is_closed_send(shape: &Shape<'_>, state: &MatchState, send: &CallShape, taker: &CallShape) -> bool {
+fn is_closed_send(
+    shape: &Shape<'_>,
+    state: &MatchState,
+    send: &CallShape,
+    taker: &CallShape,
+) -> bool {
     match send.part {
         Role::Standard if shape.policy == Policy::Always => true,
         Role::Standard | Role::Synchronous => {

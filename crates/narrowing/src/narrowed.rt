@@ -57,10 +57,11 @@ fn narrowed_kind(way: ChoiceTaken, kind: Kind) -> Kind
             blocking,
             message,
         },
-        (ChoiceTaken::Message { source, tag }, Kind::Receive { blocking, pattern }) => Kind::Receive {
-            blocking,
-            pattern: named_pattern(source, tag, pattern),
-        },
+        (ChoiceTaken::Message { source, tag }, Kind::Receive { blocking, pattern }) =>
+            Kind::Receive {
+                blocking,
+                pattern: named_pattern(source, tag, pattern),
+            },
         (ChoiceTaken::Message { source, tag }, Kind::MatchedProbe { pattern, receive }) => {
             Kind::MatchedProbe {
                 pattern: named_pattern(source, tag, pattern),
@@ -113,7 +114,12 @@ fn is_narrowed_at(
 
 /// Whether the second program is the first one, but that this call of it leaves open no more than
 /// this way. Takes no memory.
-pub fn is_narrowed(program: &LongProgram, call: usize, way: ChoiceTaken, other: &LongProgram) -> bool
+pub fn is_narrowed(
+    program: &LongProgram,
+    call: usize,
+    way: ChoiceTaken,
+    other: &LongProgram,
+) -> bool
     ensures { IsTrue result ↔ IsNarrowed program.now call way other.now }
 {
     let count = program.calls().len();

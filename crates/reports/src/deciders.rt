@@ -1,7 +1,7 @@
 //! What decided a run, for an object.
 
 use crate::telling::Asked;
-use choices::{Decided, HangExtent, ChoiceNeed, ChoiceTaken, Weighed};
+use choices::{ChoiceNeed, ChoiceTaken, Decided, HangExtent, Weighed};
 use explain_json::{Decider, Deciders};
 use std::alloc::{AllocError, Global};
 

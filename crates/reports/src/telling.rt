@@ -14,7 +14,7 @@ use callorder::LongProgram;
 use calltext::LongSource;
 use charts::{chart, picture};
 use checker::{NoRun, Reason, program_of};
-use choices::{Decided, AskingLimits, decide, decide_run, told};
+use choices::{AskingLimits, Decided, decide, decide_run, told};
 use explain::{explanation, messages, wait_graph};
 use explain_json::object_text;
 use finishing::frequency_of_program;

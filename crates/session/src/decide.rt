@@ -16,7 +16,7 @@ use crate::status::UNKNOWN;
 use crate::told::Outcome;
 use calltext::read_long;
 use command_line::ToDecide;
-use deciding::{Decision, CallerRace, Undecided, decide, decide_telling, schedule_text};
+use deciding::{CallerRace, Decision, Undecided, decide, decide_telling, schedule_text};
 use files::{Extent, FileSet};
 use prooflog::Text;
 use scene::line_numbers;
@@ -147,7 +147,12 @@ pub fn deadlock_page<'a, F: FileSet>(
 
 /// The page of a race of the program of this text: the line that tells it, and the line of its
 /// calls, or one JSON object.
-pub fn race_page(alloc: Global, text: &[u8], race: CallerRace, json: bool) -> Result<Page, AllocError>
+pub fn race_page(
+    alloc: Global,
+    text: &[u8],
+    race: CallerRace,
+    json: bool,
+) -> Result<Page, AllocError>
     ensures { IfOk result (λ page. IsRacePage json text.now race page.text.items page.status) }
 {
     // The program was made of this text, so want of memory alone can be met.

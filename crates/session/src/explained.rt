@@ -15,7 +15,7 @@ use crate::page::{Page, page_of};
 use crate::told::Outcome;
 use calltext::Limits;
 use command_line::ToExplain;
-use deciding::{Decision, CallerRace, Undecided, decide, schedule_text};
+use deciding::{CallerRace, Decision, Undecided, decide, schedule_text};
 use files::FileSet;
 use options::Form;
 use prooflog::Text;

@@ -17,7 +17,7 @@ use crate::swept::{behind_first, form_of_answer, graver};
 use command_line::{ToDecideEach, ToExplainEach};
 use deciding::decide;
 use files::FileSet;
-use junit::{TestOutcome, Report};
+use junit::{Report, TestOutcome};
 use options::Form;
 use prooflog::Text;
 use std::alloc::{AllocError, Global};

@@ -22,7 +22,7 @@ use calltext::{Mode, Verb};
 use plaintext::put_number;
 use spmd_tree::SendMode;
 use std::alloc::{AllocError, Global};
-use unroll::{UnrolledCall, Label, Placed};
+use unroll::{Label, Placed, UnrolledCall};
 
 /// Adds a number of 31 bits behind a blank.
 fn put_small(out: &mut Vec<u8>, number: u32) -> Result<(), AllocError>

@@ -9,7 +9,7 @@ use crate::said::said_lines;
 use crate::told::{put, put_turns};
 use plaintext::put_number;
 use std::alloc::{AllocError, Global};
-use unroll::{UnrolledCall, Placed, Turn};
+use unroll::{Placed, Turn, UnrolledCall};
 
 /// The checksum of Fowler, Noll and Vo in its form `1a`, of 64 bits.
 fn sum_of(bytes: &[u8]) -> u64

@@ -19,7 +19,7 @@ use crate::told::{put, put_fault};
 use plaintext::put_number;
 use spmd_text::{ParseFault, ParseReason, SpmdText, TextFault, parse};
 use std::alloc::{AllocError, Global};
-use unroll::{Fault, UnrollLimits, Refusal, Turn, Unrolled, Value, unroll};
+use unroll::{Fault, Refusal, Turn, UnrollLimits, Unrolled, Value, unroll};
 
 /// How many turns of loops all ranks together may make: this bounds the time of a text whose loops
 /// make no calls.

@@ -16,7 +16,9 @@ use crate::keeping::{Made, boxed, keep, refuse};
 use crate::labels::is_label;
 use crate::parser::Parser;
 use crate::piece::{Piece, Word};
-use spmd_tree::{Arguments, Expression, GroupForm, CollectiveKind, LabelForm, Labels, SendMode, SpmdStatement};
+use spmd_tree::{
+    Arguments, CollectiveKind, Expression, GroupForm, LabelForm, Labels, SendMode, SpmdStatement,
+};
 use std::alloc::AllocError;
 
 /// Whether the name can be that of a request or handle.

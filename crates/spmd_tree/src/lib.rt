@@ -4,6 +4,6 @@
 mod tree;
 
 pub use tree::{
-    Arguments, Comparison, Expression, GroupForm, CollectiveKind, LabelForm, Labels, SendMode, Operator,
-    SpmdStatement,
+    Arguments, CollectiveKind, Comparison, Expression, GroupForm, LabelForm, Labels, Operator,
+    SendMode, SpmdStatement,
 };

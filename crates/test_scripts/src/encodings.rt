@@ -10,7 +10,7 @@ use clauses::Assignment;
 use cubes::{branching_variables, split};
 use encode::{Encoded, encode};
 use extract::schedule_of;
-use formula::{RunEvent, Fact, Meaning};
+use formula::{Fact, Meaning, RunEvent};
 use formula_tables::Variables;
 use nonovertake::earlier;
 use std::alloc::Global;

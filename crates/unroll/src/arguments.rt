@@ -9,7 +9,7 @@ use crate::parts::{
     source, tag,
 };
 use crate::value::{FaultReason, Value};
-use spmd_tree::{Arguments, Expression, GroupForm, CollectiveKind, LabelForm, SendMode};
+use spmd_tree::{Arguments, CollectiveKind, Expression, GroupForm, LabelForm, SendMode};
 
 /// The arguments of a call. A destination or source that is `None` is `null`. A source that is
 /// `Some(None)` is a wildcard, and so is a tag that is `None`.

@@ -5,7 +5,7 @@ ghost use Rattle.unroll.specs.Collectives.{kind_for};
 ghost use Rattle.unroll.specs.parts.Runs.{HasOutcome, seen_run, faulty};
 ghost use Rattle.unroll.specs.Runs.{call_put, put_each, collective_run};
 
-use crate::call::{UnrolledCall, Group, Meeting};
+use crate::call::{Group, Meeting, UnrolledCall};
 use crate::collective::{calls_of, way_of};
 use crate::machine::{Machine, Scope, Stop, faulty, put};
 use crate::members::{earlier, is_member};
@@ -13,7 +13,12 @@ use crate::value::FaultReason;
 use spmd_tree::CollectiveKind;
 
 /// Makes these calls, one after another.
-fn put_each(machine: &mut Machine, scope: Scope, line: u32, calls: &[UnrolledCall]) -> Result<(), Stop>
+fn put_each(
+    machine: &mut Machine,
+    scope: Scope,
+    line: u32,
+    calls: &[UnrolledCall],
+) -> Result<(), Stop>
     ensures { HasOutcome result (put_each calls.now scope line (seen_run machine.old)) (seen_run machine.new) }
 {
     for call in calls {
@@ -29,7 +34,11 @@ fn put_each(machine: &mut Machine, scope: Scope, line: u32, calls: &[UnrolledCal
 fn kind_for(barriers: bool, kind: CollectiveKind) -> CollectiveKind
     ensures { result ≡ kind_for barriers kind }
 {
-    if barriers { CollectiveKind::Barrier } else { kind }
+    if barriers {
+        CollectiveKind::Barrier
+    } else {
+        kind
+    }
 }
 
 /// Makes the calls that a collective call stands for.

@@ -7,7 +7,7 @@ ghost use Rattle.std.specs.Prelude.{◌≡◌, ◌≤◌, ◌<◌, ◌++◌, IfO
 ghost use Rattle.unroll.specs.Groups.{others, earlier_meetings, before, member_after};
 ghost use Rattle.unroll.specs.Collectives.{number, way_of, send, receive, sends, receives, meet, spread, collect, chain, collective_calls};
 
-use crate::call::{UnrolledCall, Group};
+use crate::call::{Group, UnrolledCall};
 use crate::members::{after, before, earlier, others};
 use spmd_tree::{CollectiveKind, SendMode};
 use std::alloc::{AllocError, Global};

@@ -17,8 +17,8 @@ mod value;
 mod waiting;
 mod whole;
 
-pub use call::{UnrolledCall, Fault, Group, Label, Placed, Turn};
+pub use call::{Fault, Group, Label, Placed, Turn, UnrolledCall};
 pub use expression::evaluate;
 pub use laws::collectives_are_apart;
 pub use value::{FaultReason, Value};
-pub use whole::{UnrollLimits, Refusal, Unrolled, unroll};
+pub use whole::{Refusal, UnrollLimits, Unrolled, unroll};

@@ -5,7 +5,7 @@ ghost use Rattle.unroll.specs.Labels.{is_left_out, without};
 ghost use Rattle.unroll.specs.parts.Runs.{HasOutcome, seen_run, faulty};
 ghost use Rattle.unroll.specs.Runs.{call_put, guarded, guarded_request, left, left_request, assigned, turn_begun, loop_finished, set_value};
 
-use crate::call::{UnrolledCall, Fault, Label, LeftOut, Meeting, Placed, Turn, is_for};
+use crate::call::{Fault, Label, LeftOut, Meeting, Placed, Turn, UnrolledCall, is_for};
 use crate::value::{FaultReason, Value};
 use std::alloc::{AllocError, AllocFailed, Global};
 
@@ -76,7 +76,12 @@ pub(crate) fn faulty(machine: &Machine, scope: Scope, line: u32, reason: FaultRe
 }
 
 /// Makes one call more, unless there are as many as may be.
-pub(crate) fn put(machine: &mut Machine, scope: Scope, line: u32, call: UnrolledCall) -> Result<(), Stop>
+pub(crate) fn put(
+    machine: &mut Machine,
+    scope: Scope,
+    line: u32,
+    call: UnrolledCall,
+) -> Result<(), Stop>
     ensures { HasOutcome result (call_put scope line call (seen_run machine.old)) (seen_run machine.new) }
 {
     if machine.calls.len() as u64 >= scope.most_calls {
@@ -116,7 +121,12 @@ pub(crate) fn guard(
     ensures { HasOutcome result (guarded scope line handle label (seen_run machine.now)) (seen_run machine.now) }
 {
     if is_left_out(&machine.left_out, handle, label) {
-        return Err(faulty(machine, scope, line, FaultReason::StillOpen { name: label.name }));
+        return Err(faulty(
+            machine,
+            scope,
+            line,
+            FaultReason::StillOpen { name: label.name },
+        ));
     }
     Ok(())
 }

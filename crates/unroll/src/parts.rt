@@ -7,7 +7,7 @@ use crate::arithmetic::below;
 use crate::call::{Group, Label};
 use crate::expression::{evaluate, number_in};
 use crate::value::{FaultReason, Value};
-use spmd_tree::{Expression, GroupForm, CollectiveKind, LabelForm};
+use spmd_tree::{CollectiveKind, Expression, GroupForm, LabelForm};
 
 /// The number that the expression gives.
 pub(crate) fn number(

@@ -5,7 +5,7 @@ ghost use Rattle.unroll.specs.parts.Runs.{HasOutcome, seen_run};
 ghost use Rattle.unroll.specs.Runs.{call_put, matched, sent, received, matched_probed, probed, joined_call, put_optional, perform};
 
 use crate::arguments::Prepared;
-use crate::call::{UnrolledCall, Label};
+use crate::call::{Label, UnrolledCall};
 use crate::collecting::perform_collective;
 use crate::machine::{Machine, Scope, Stop, guard, guard_request, leave, leave_request, put};
 use crate::members::root_in;

@@ -185,7 +185,11 @@ fn wait_each(
 
 /// Does what the statement says. A loop evaluates its ends once, and counts its turns with those of
 /// all other loops and ranks.
-pub(crate) fn run(machine: &mut Machine, scope: Scope, statement: &SpmdStatement) -> Result<(), Stop>
+pub(crate) fn run(
+    machine: &mut Machine,
+    scope: Scope,
+    statement: &SpmdStatement,
+) -> Result<(), Stop>
     ensures { HasOutcome result (meaning statement.now scope (seen_run machine.old)) (seen_run machine.new) }
 {
     match statement {
@@ -260,7 +264,14 @@ pub(crate) fn run(machine: &mut Machine, scope: Scope, statement: &SpmdStatement
             Err(faulty(machine, scope, *line, FaultReason::TooManyTurns))
         }
         SpmdStatement::Call { line, arguments } => call(machine, scope, *line, arguments),
-        SpmdStatement::WaitAll { line, requests } => wait_each(machine, scope, *line, true, requests),
-        SpmdStatement::Unreached { line } => Err(faulty(machine, scope, *line, FaultReason::ErrorReached)),
+        SpmdStatement::WaitAll { line, requests } => wait_each(
+            machine, scope, *line, true, requests,
+        ),
+        SpmdStatement::Unreached { line } => Err(faulty(
+            machine,
+            scope,
+            *line,
+            FaultReason::ErrorReached,
+        )),
     }
 }

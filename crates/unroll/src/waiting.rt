@@ -4,7 +4,7 @@ ghost use Rattle.std.specs.Prelude.{◌≡◌, IfOk};
 ghost use Rattle.unroll.specs.parts.Runs.{HasOutcome, seen_run};
 ghost use Rattle.unroll.specs.Runs.{call_put, matched, waited, wait_part, still_first};
 
-use crate::call::{UnrolledCall, Label};
+use crate::call::{Label, UnrolledCall};
 use crate::machine::{Machine, Scope, Stop, forget, is_left_out, leave_request, put};
 
 /// Receives on a handle. Where its matched probe was left out the receive is left out too, and its
