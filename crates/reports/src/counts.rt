@@ -226,7 +226,7 @@ fn marked_text(
     choices: &[NamedCount],
     claim: &[NamedCount],
 ) -> Result<Vec<u8>, AllocError>
-    ensures { IfOk result (λ text. text.items ≡ marked_text (texts_of marks.now) sizes.now wildcards_with_choice.now claim.now) }
+    ensures { IfOk result (λ text. text.items ≡ marked_text (texts_of marks.now) sizes.now choices.now claim.now) }
 {
     let mut out = Vec::new(alloc);
     put_text(&mut out, marks.begin)?;

@@ -42,8 +42,8 @@ fn number(kind: CollectiveKind) -> u32
 /// How the messages are known of a collective call before which so many were made with its
 /// communicator and group: by tags below 2^31.
 pub(crate) fn way_of(kind: CollectiveKind, earlier: u32, communicator: u32) -> Way
-    requires { earlier_meetings < 67108864 }
-    ensures { result ≡ way_of kind earlier_meetings communicator }
+    requires { earlier < 67108864 }
+    ensures { result ≡ way_of kind earlier communicator }
 {
     let first = 32 * earlier + 2 * number(kind);
     Way {
@@ -197,7 +197,7 @@ fn chain(
     after: Option<u32>,
     way: Way,
 ) -> Result<Vec<UnrolledCall>, AllocError>
-    ensures { IfOk result (λ calls. calls.items ≡ chain before member_after way) }
+    ensures { IfOk result (λ calls. calls.items ≡ chain before after way) }
 {
     let mut calls = Vec::new(alloc);
     match before {
