@@ -70,7 +70,7 @@ tail_as old scope depth w s other ends_so there tail_so = record {
     by_one : (one : Bool) (x : SpmdStatement) (rest : List Token) → is_one x ≡ one → old.fault ≡ None → MayTail scope depth x → after_statement x (Some old.rest.now) ≡ Some rest
         → piece_begins (piece.Word word.End) (Some rest) ≡ true → Begins scope depth w x
     by_one true x rest one sound may e ends =
-        record { one = one; piece_begins = same_begin (first_word x) w old.rest.now (one_begins x one old.rest.now rest e) (there sound); obeys = may.obeys }
+        record { one = one; begins = same_begin (first_word x) w old.rest.now (one_begins x one old.rest.now rest e) (there sound); obeys = may.obeys }
     by_one false x rest one sound may e ends =
         let f = subst (λ (z : SpmdStatement). after_statement z (Some old.rest.now) ≡ Some rest) (is_nothing_or x may.tail one) e in
         let same = same_Some old.rest.now rest f in
@@ -125,7 +125,7 @@ otherwise_so old depth line inner made m rest e may = (
   ap (λ (z : SpmdStatement). after_statement z (put_back line word.Else (Some old.rest.now))) m.is
       ∙ (ap (λ (v : SpmdStatement). only (not (is_branch v)) (after_statement v (after_piece piece.LineEnd (Some old.rest.now)))) m.holds
       ∙ (ap (λ (b : Bool). only (not b) (after_statement inner (after_piece piece.LineEnd (Some old.rest.now)))) may.1.plain ∙ e)),
-  subst (Begins (scope_of old) depth word.Else) (sym m.is) (record { one = refl; piece_begins = refl; obeys = subst (Obeys (scope_of old) depth) (sym m.holds) may.1.obeys }),
+  subst (Begins (scope_of old) depth word.Else) (sym m.is) (record { one = refl; begins = refl; obeys = subst (Obeys (scope_of old) depth) (sym m.holds) may.1.obeys }),
 )
 
 -- ---- a branch
@@ -178,7 +178,7 @@ when_so old depth line chained c a b made deep m rest e may = (
       ∙ (ap (λ (k : Bool). only k (behind_condition chained c a b begun)) (both_true (not (is_branch a)) (is_tail b) (ap not may.0.0.1.plain) may.0.1.tail)
       ∙ (ap (behind_condition chained c a b) (start_same line (branch_word chained) old.rest.now) ∙ e)))),
   subst (Begins (scope_of old) depth (branch_word chained)) (sym m.is)
-      (record { one = refl; piece_begins = refl; obeys = (deep, may.0.0.0.0, subst (Obeys (scope_of old) (depth - 1)) (sym m.first_holds) may.0.0.1.obeys, subst (Obeys (scope_of old) (depth - 1)) (sym m.second_holds) may.0.1.obeys) }),
+      (record { one = refl; begins = refl; obeys = (deep, may.0.0.0.0, subst (Obeys (scope_of old) (depth - 1)) (sym m.first_holds) may.0.0.1.obeys, subst (Obeys (scope_of old) (depth - 1)) (sym m.second_holds) may.0.1.obeys) }),
 )
   where
     start : Rest
@@ -224,14 +224,14 @@ first_simple w first a b = refl
 
 abbrev pub then_on : {X Y Z : Type 0} → SyntaxPart X → SyntaxPart Y → (Z → Y → Type 0) → (X → Z) → SyntaxPart (X × Y)
 then_on one base M key = record {
-  behind_next = λ both rest. base.behind both.1 (one.behind both.0 rest);
+  behind = λ both rest. base.behind both.1 (one.behind both.0 rest);
   May = λ both. one.May both.0 × M (key both.0) both.1;
   Same = λ a b. one.Same a.0 b.0 × base.Same a.1 b.1;
   ends = base.ends;
 }
 
 abbrev pub restricted : {Y : Type 0} → SyntaxPart Y → (Y → Type 0) → SyntaxPart Y
-restricted base May = record { behind_next = base.behind; May = May; Same = base.Same; ends = base.ends }
+restricted base May = record { behind = base.behind; May = May; Same = base.Same; ends = base.ends }
 
 pub reads_then_on : {X Y Z : Type 0} {one : SyntaxPart X} (base : SyntaxPart Y) (M : Z → Y → Type 0) {old mid new : Parser} {a : X} {b : Y} (key : X → Z)
     → ((y : Y) → base.behind y None ≡ None) → ((y : Y) (here rest : List Token) → base.behind y (Some here) ≡ Some rest → base.ends rest ≡ true → one.ends here ≡ true)
@@ -316,7 +316,7 @@ repeat_so old depth line k span a made deep m rest e may = (
       ∙ (ap (λ (b : Bool). only (not b) (behind_word k span a begun)) may.0.1.plain
       ∙ (ap (behind_word k span a) (start_same line word.For old.rest.now) ∙ e))),
   subst (Begins (scope_of old) depth word.For) (sym m.is)
-      (record { one = refl; piece_begins = refl; obeys = (deep, may.0.0.0.0, may.0.0.0.1.first, may.0.0.0.1.last, may.0.0.0.1.step, subst (Obeys (within_loop k (scope_of old)) (depth - 1)) (sym m.holds) may.0.1.obeys) }),
+      (record { one = refl; begins = refl; obeys = (deep, may.0.0.0.0, may.0.0.0.1.first, may.0.0.0.1.last, may.0.0.0.1.step, subst (Obeys (within_loop k (scope_of old)) (depth - 1)) (sym m.holds) may.0.1.obeys) }),
 )
   where
     start : Rest

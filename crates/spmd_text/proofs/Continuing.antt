@@ -302,7 +302,7 @@ inner prefix.Not least depth in_parameter p a here rest is w may =
     record {
       begin = piece.Word word.Not;
       first = first.0;
-      behind_next = rest;
+      behind = rest;
       begins = first.1;
       spelled = ap (after_expression a) (sym first.1) ∙ only.1;
       ends = (refl, fit.1);
@@ -316,7 +316,7 @@ inner prefix.Minus least depth in_parameter p a here rest is w may =
     record {
       begin = piece.Minus;
       first = first.0;
-      behind_next = rest;
+      behind = rest;
       begins = first.1;
       spelled = ap (after_expression a) (sym first.1) ∙ only.1;
       ends = (refl, fit.1);
@@ -330,7 +330,7 @@ inner prefix.Parentheses least depth in_parameter p a here rest is w may =
     record {
       begin = piece.Open;
       first = first.0;
-      behind_next = mid.0;
+      behind = mid.0;
       begins = first.1;
       spelled = ap (after_expression a) (sym first.1) ∙ mid.1;
       ends = close;
@@ -387,7 +387,7 @@ choice_ahead old depth p c q a s b rest ahead stop =
     let yes_fit = fits_so a 4 false parts_in_row.yes_fits in
     let no_fit = fits_so b 4 false parts_in_row.no_fits in
     record {
-      parts_in_row = parts_in_row;
+      parts = parts_in_row;
       condition = record { nested = omega (arith, w.nested); narrow = narrower.0; rankless = λ f. (ranker f).0 };
       yes = record { nested = omega (arith, w.nested); narrow = narrower.1; rankless = λ f. (ranker f).1 };
       no = record { nested = omega (arith, w.nested); narrow = narrow.1; rankless = λ f. (rank f).1 };

@@ -231,7 +231,7 @@ row_more {old} {s} {mid} {new} {depth} {list} {longer} w item so_far is reads ma
         absurd (let never : None ≡ Some w = sym none ∙ is in cc)
     by_row rest ends sound (x ∷ xs) e may =
         let between = left_before (behind_all xs) (all_strict xs) (after_statement x (Some s.rest.now)) rest e in
-        let begun : Begins (scope_of old) depth w x = record { one = may.0.one; piece_begins = same_begin (first_word x) w s.rest.now (one_begins x may.0.one s.rest.now between.0 between.1) (next_begins w s.fault s.rest.now sound known.0); obeys = may.0.obeys } in
+        let begun : Begins (scope_of old) depth w x = record { one = may.0.one; begins = same_begin (first_word x) w s.rest.now (one_begins x may.0.one s.rest.now between.0 between.1) (next_begins w s.fault s.rest.now sound known.0); obeys = may.0.obeys } in
         by_found rest between.0 xs (ap (behind_all xs) (sym between.1) ∙ e) may.1
         (finds_made makes (r.finds x between.0 sound between.1 begun (first_ends w between.0 known.1)))
 
