@@ -19,7 +19,7 @@ impl Engine {
         self.probes_left = self.probes_left.saturating_sub(1);
         let literal = self.probes.get(self.probe_place).copied();
         self.probe_place = match literal {
-            Some(_) => self.probe_place.saturating_add(1),
+            Some(_) => self.probe_place + 1,
             None => 0,
         };
         literal
@@ -50,7 +50,7 @@ impl Engine {
         }
         let conflict = self.propagate_alone(alloc, literal)?;
         if conflict.is_some() {
-            self.probes_left = most_in_vain(self.probes.len().saturating_add(1));
+            self.probes_left = most_in_vain(self.probes.len() + 1);
         } else {
             self.back(0);
         }

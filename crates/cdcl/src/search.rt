@@ -110,7 +110,7 @@ impl Engine {
     /// Propagates and decides, below what is decided so far.
     fn descend(&mut self, alloc: Global, cube: &[LitIndex]) -> Result<Stop, AllocError> {
         let most = self.known.most().saturating_add(cube.len());
-        for _ in 0..most.saturating_add(1) {
+        for _ in 0..=most {
             if let Some(clause) = self.known.propagate(alloc)? {
                 return Ok(Stop::Conflict(clause));
             }

@@ -46,13 +46,12 @@ impl<'e> Explorer<'e> {
 
     /// The first of these clauses that is false, of the last few, from the last one on.
     fn first_false(&self, clauses: &[ClauseRef]) -> Option<ClauseRef> {
-        let first = clauses.len().saturating_sub(MOST_NEAR);
-        for place in (first..clauses.len()).rev() {
-            if self.engine.is_false(clauses[place]) {
-                return Some(clauses[place]);
-            }
-        }
-        None
+        clauses
+            .iter()
+            .rev()
+            .take(MOST_NEAR)
+            .find(|clause| self.engine.is_false(**clause))
+            .copied()
     }
 
     /// A clause that closed a state with the same matched calls, and is false now.

@@ -139,7 +139,7 @@ impl Values<'_> {
             mut places,
             roots,
         } = way;
-        let mut literals = Vec::with_capacity(alloc, causes.len().saturating_add(1))?;
+        let mut literals = Vec::with_capacity(alloc, causes.len() + 1)?;
         causes.sort_unstable();
         for _ in 0..self.known.len() {
             let Some(cause) = causes.pop() else {

@@ -170,13 +170,11 @@ impl<'e> Explorer<'e> {
         batch: &mut Batch,
     ) -> Result<Excluding, AllocError> {
         let assumed = self.engine.known.len();
-        let mut place = 0usize;
-        for branch in branches.iter_mut() {
+        for (place, branch) in branches.iter_mut().enumerate() {
             match self.take_branch(alloc, place, assumed, branch, batch)? {
                 Excluding::Going => {}
                 end => return Ok(end),
             }
-            place = place.saturating_add(1);
         }
         Ok(Excluding::Going)
     }

@@ -106,7 +106,7 @@ impl<'e> Explorer<'e> {
     ) -> Result<(), AllocError> {
         let before = batch.lines.len();
         self.learnt_from = before;
-        self.learnt_to = before.saturating_add(lines.lines.len());
+        self.learnt_to = before + lines.lines.len();
         for line in &lines.lines {
             self.append_line(alloc, line, before, batch)?;
         }

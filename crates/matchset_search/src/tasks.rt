@@ -77,21 +77,12 @@ impl<'e> Explorer<'e> {
         Ok(())
     }
 
-    /// How many states are to be closed first.
-    fn visits(&self) -> usize {
-        let mut count = 0usize;
-        for task in self.tasks.iter().rev() {
-            if !task.is_visit() {
-                break;
-            }
-            count = count.saturating_add(1);
-        }
-        count
-    }
-
     /// Puts the state behind all others that are to be closed below the same one.
     pub(crate) fn put_last(&mut self, state: MatchState) -> Result<(), AllocError> {
-        let place = self.tasks.len().saturating_sub(self.visits());
+        let place = match self.tasks.iter().rposition(|task| !task.is_visit()) {
+            Some(last) => last + 1,
+            None => 0,
+        };
         self.tasks.insert(place, Task::VisitLast(state))?;
         Ok(())
     }

@@ -47,9 +47,9 @@ fn candidates_of(shape: &Shape<'_>, trail: &Trail, call: usize) -> Option<Candid
             return None;
         }
         if trail.is_unset(pair.matched) {
-            count = count.saturating_add(1);
+            count += 1;
             if !trail.is_true(shape.call(pair.send).issued) {
-                jumps = jumps.saturating_add(1);
+                jumps += 1;
             }
         }
     }

@@ -126,9 +126,10 @@ fn take_step(entering: &mut [usize], event: usize) -> bool {
 
 /// The steps from an event, where all stand in this order and start there.
 fn steps_from<'s>(starts: &[usize], steps: &'s [Step], event: usize) -> &'s [Step] {
-    let start = starts.get(event).copied().unwrap_or(0);
-    let end = starts.get(event.saturating_add(1)).copied().unwrap_or(0);
-    match steps.get(start..end) {
+    let Some([start, end, ..]) = starts.get(event..) else {
+        return &[];
+    };
+    match steps.get(*start..*end) {
         Some(steps) => steps,
         None => &[],
     }

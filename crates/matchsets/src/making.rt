@@ -57,12 +57,12 @@ fn buffered_of(variables: &Variables<'_>, part: Role, call: usize) -> Option<Lit
     None
 }
 
-fn call_of(program: &Program, variables: &Variables<'_>, first: usize, call: usize) -> CallShape {
+fn call_of(program: &Program, variables: &Variables<'_>, place: usize, call: usize) -> CallShape {
     let rank = rank_of(program, call);
     let part = part_of(program, call);
     CallShape {
         rank,
-        place: call.saturating_sub(first),
+        place,
         part,
         condition: when_returned(program, call),
         waiter: None,
@@ -82,9 +82,9 @@ fn calls_of(
     let mut calls = Vec::new(alloc);
     let mut first = 0;
     for call in 0..program.calls().len() {
-        let shape = call_of(program, variables, first, call);
+        let shape = call_of(program, variables, call - first, call);
         if shape.is_last {
-            first = call.saturating_add(1);
+            first = call + 1;
         }
         calls.push(shape)?;
     }
@@ -190,7 +190,7 @@ fn of_sends(
 fn orders_of(alloc: Global, encoded: &Encoded) -> Result<Vec<Option<(usize, usize)>>, AllocError> {
     let mut orders = Vec::new(alloc);
     for place in 0..encoded.formula().variables() {
-        let order = match encoded.meaning(place.saturating_add(1)) {
+        let order = match encoded.meaning(place + 1) {
             Some(Meaning::Before(first, second)) => Some((first, second)),
             _ => None,
         };

@@ -28,7 +28,7 @@ fn has_end(
     if before.end <= rank.length {
         return true;
     }
-    for place in issued..rank.length.saturating_add(1) {
+    for place in issued..=rank.length {
         if trail.is_decided(ends_at(shape, rank, place)) {
             return true;
         }
@@ -40,7 +40,7 @@ fn has_end(
 fn end(shape: &Shape<'_>, trail: &Trail, rank: &RankShape, issued: usize, most: usize) -> usize {
     for place in (issued..most).rev() {
         if !trail.is_true(ends_at(shape, rank, place)) {
-            return place.saturating_add(1);
+            return place + 1;
         }
     }
     issued

@@ -83,11 +83,9 @@ impl<'a, 'e> Reality<'a, 'e> {
     fn reached(&self, rank: usize, before: usize) -> usize {
         let first = self.shape.rank(rank).first;
         let most = self.state.rank(rank).issued;
-        for place in before..most {
-            let last = self
-                .shape
-                .call(first.saturating_add(place).saturating_sub(1));
-            if place > 0 && !self.has_returned(&last) {
+        for place in before.max(1)..most {
+            let last = self.shape.call(first.saturating_add(place - 1));
+            if !self.has_returned(&last) {
                 return place;
             }
         }
@@ -157,8 +155,7 @@ impl<'a, 'e> Reality<'a, 'e> {
     }
 
     fn run(&mut self, pairs: &[usize]) {
-        let most = self.shape.calls().len().saturating_add(pairs.len());
-        for _ in 0..most.saturating_add(1) {
+        for _ in 0..=self.shape.calls().len() + pairs.len() {
             let advances = self.advance();
             let happens = self.happen_all(pairs);
             if !advances && !happens {

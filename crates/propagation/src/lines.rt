@@ -30,15 +30,6 @@ impl Lines {
             returned: 0,
         }
     }
-
-    /// The clause of the next line to come back, where that has these literals.
-    fn next(&self, rising: &[LitIndex]) -> Option<ClauseRef> {
-        let line = self.lines.get(self.returned)?;
-        if line.rising.as_slice() == rising {
-            return Some(line.clause);
-        }
-        None
-    }
 }
 
 impl Propagator {
@@ -78,12 +69,14 @@ impl Propagator {
     /// Where the next line to come back has these literals, which rise, it comes from there from
     /// now on. Answers whether it has.
     pub fn take_back(&mut self, rising: &[LitIndex], origin: Origin) -> bool {
-        let Some(clause) = self.lines.next(rising) else {
-            return false;
-        };
-        self.store.set_origin(clause, origin);
-        self.lines.returned = self.lines.returned.saturating_add(1);
-        true
+        match self.lines.lines.get(self.lines.returned) {
+            Some(line) if line.rising.as_slice() == rising => {
+                self.store.set_origin(line.clause, origin);
+                self.lines.returned += 1;
+                true
+            }
+            _ => false,
+        }
     }
 
     /// Waits for no line any more, and answers whether some didn't come back.

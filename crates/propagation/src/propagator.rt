@@ -56,9 +56,7 @@ impl Propagator {
     ) -> Result<Propagator, AllocError> {
         let mut made = Propagator::empty(alloc, formula.variables(), refuting)?;
         let mut literals = Vec::new(alloc);
-        let mut number = 0u32;
-        for clause in formula.clauses() {
-            number = number.saturating_add(1);
+        for (number, clause) in (1..=u32::MAX).zip(formula.clauses()) {
             let Some(origin) = Origin::of_number(number) else {
                 break;
             };

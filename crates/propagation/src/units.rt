@@ -90,7 +90,7 @@ impl Propagator {
         places: &[usize],
         last: Option<ClauseRef>,
     ) -> Result<Vec<Origin>, AllocError> {
-        let mut origins = Vec::with_capacity(alloc, places.len().saturating_add(1))?;
+        let mut origins = Vec::with_capacity(alloc, places.len() + 1)?;
         for place in places {
             origins.push(self.origin(self.reason_at(*place)))?;
         }

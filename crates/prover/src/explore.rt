@@ -110,7 +110,7 @@ pub fn run_that_parts_last(
             best = found;
             low = middle;
         } else {
-            high = middle.saturating_sub(1);
+            high = middle - 1;
         }
     }
     Ok(best)

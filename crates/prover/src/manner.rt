@@ -75,7 +75,7 @@ pub fn manner_at(turn: u32) -> Manner {
         return *manner;
     }
     Manner {
-        held_back: Some(turn.saturating_sub(FIRST.len() as u32)),
+        held_back: Some(turn - FIRST.len() as u32),
         ..PLAIN
     }
 }

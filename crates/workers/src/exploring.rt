@@ -227,7 +227,7 @@ impl Worker<'_> {
         let base = common.shared.publish(rt, self.alloc, seat, batch)?;
         let place = line_place(self.clauses(), base);
         if let Some(exploration) = &mut self.exploration {
-            exploration.own = place..place.saturating_add(batch.lines.len());
+            exploration.own = place..place + batch.lines.len();
             let closings = exploration.search.closings(self.alloc, base)?;
             common.closed.add(rt, worker, &closings)?;
         }

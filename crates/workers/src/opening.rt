@@ -94,8 +94,8 @@ impl Worker<'_> {
             return Ok(());
         }
         let most = self.whole.min(CONFLICTS_AT_A_TIME);
+        self.whole -= most;
         self.search_whole(rt, common, seat, &[], most)?;
-        self.whole = self.whole.saturating_sub(most);
         if self.left == 0 && self.refuted.is_none() {
             return Err(Stop { why: Why::Budget });
         }
@@ -122,9 +122,7 @@ fn search_first<S: Share, G: Gate, R: Wait>(
 fn first_conflicts(clauses: usize, workers: u32) -> u64 {
     if workers > 1 {
         let more = clauses / CLAUSES_FOR_A_CONFLICT;
-        FIRST_CONFLICTS
-            .saturating_add(more as u64)
-            .min(MOST_CONFLICTS)
+        (FIRST_CONFLICTS + more as u64).min(MOST_CONFLICTS)
     } else {
         MOST_CONFLICTS
     }

@@ -224,7 +224,7 @@ impl<'e> Worker<'e> {
     ) -> Result<u32, Stop> {
         let base = shared.publish(rt, self.alloc, seat, batch)?;
         let place = line_place(self.clauses(), base);
-        self.own = place..place.saturating_add(batch.lines.len());
+        self.own = place..place + batch.lines.len();
         Ok(base)
     }
 
