@@ -1,6 +1,5 @@
 use Rattle.std.proofs.Common.{sym, subst}
 use Rattle.std.proofs.lemmas.List.Elements.{All-push}
-use Rattle.choices.specs.declared.items.Choice.{Choice}
 use Rattle.choices.specs.Weights.{IsChoiceOf}
 use Rattle.choices.specs.parts.Weights.{AreChoicesOf}
 use Rattle.choices.proofs.weighing.keep.Goals as goal
