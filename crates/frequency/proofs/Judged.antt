@@ -20,7 +20,7 @@ use Rattle.clocks.proofs.Members.{spans_are_blocks}
 use Rattle.clocks.proofs.Shown.{shows}
 use Rattle.frequency.specs.Frequencies.{EachRunSticks}
 
-sticks : (p : MpiProgram) (steps : List Step) (m : Configuration) (rank : ℕ) → IsMostBufferedRun p steps → m ≡ after_all (opening p) steps → (rank < p.ranks) × (is_rank_finished p m rank ≡ false) → IsStuckRun p steps
+pub sticks : (p : MpiProgram) (steps : List Step) (m : Configuration) (rank : ℕ) → IsMostBufferedRun p steps → m ≡ after_all (opening p) steps → (rank < p.ranks) × (is_rank_finished p m rank ≡ false) → IsStuckRun p steps
 sticks p steps m rank most end unfinished =
     record {
       run = most.run;

@@ -1,6 +1,6 @@
 -- The test whether a program is a narrowed one, place by place, and the other ways that are found,
 -- send by send.
-use Rattle.std.proofs.Common.{◌≡◌, ℕ, ◌+◌, ◌<◌, ◌≤◌, inl, inr, true, List, [], ◌∷◌, ◌++◌, Some, None, length, refl, sym, ap, ◌∙◌, subst, arith}
+use Rattle.std.proofs.Common.{Option, ◌≡◌, ℕ, ◌+◌, ◌<◌, ◌≤◌, inl, inr, true, List, [], ◌∷◌, ◌++◌, Some, None, length, refl, sym, ap, ◌∙◌, subst, arith}
 use Rattle.std.specs.Prelude.{Contains}
 use Rattle.std.specs.Option.{option_map}
 use Rattle.std.proofs.lemmas.Bool.{cases_eq, cases_lt}
@@ -9,7 +9,7 @@ use Rattle.callorder.specs.Programs.{MpiProgram, call_at, are_fit}
 use Rattle.narrowing.specs.declared.taken.ChoiceTaken.{ChoiceTaken}
 use Rattle.narrowing.specs.Narrowed.{narrowed_call, IsNarrowed, IsNarrowedAt}
 use Rattle.std.proofs.lemmas.List.Elements.{Contains-push, Contains-append_left, All-push}
-use Rattle.narrowing.specs.Ways.{way_to, IsOtherMessage, AreOthersBelow}
+use Rattle.narrowing.specs.Ways.{way_to, way_to_call, IsOtherMessage, AreOtherMessages, AreOthersBelow}
 
 pub one_more_place : (p q : MpiProgram) (call : ℕ) (way : ChoiceTaken) (i : ℕ) → ((k : ℕ) → k < i → IsNarrowedAt p call way q k) → IsNarrowedAt p call way q i → (k : ℕ) → k < i + 1 → IsNarrowedAt p call way q k
 one_more_place p q call way i so here k below =
@@ -53,4 +53,18 @@ one_more_way p call taken send others way fit is other old =
                 ]
           ];
       each = All-push (λ w. IsOtherMessage p call taken w) others way old.each (record { send = send; fit = fit; is = is; other = other });
+    }
+
+-- past the end there is no send
+pub all_other : (p : MpiProgram) (call : ℕ) (taken : Taken) (count : ℕ) (others : List Taken) → length p.calls ≤ count → AreOthersBelow p call taken count others → AreOtherMessages p call taken others
+all_other p call taken count others end below =
+    record {
+      all = λ s w fits said.
+          elim (cases_lt s (length p.calls)) [
+            | inl within ↦ below.all s w (omega arith) fits said
+            | inr out ↦
+                let none : ◌≡◌ {A = Option Taken} None (Some w) = sym (ap way_to_call (slice_get_past p.calls s out)) ∙ said in
+                let never : ⊥ = cc in absurd never
+          ];
+      each = below.each;
     }
