@@ -2,18 +2,18 @@ use Rattle.std.proofs.Common.{◌≡◌, ◌↔◌, ℕ, Option, sym, ap, ◌∙
 use Rattle.std.specs.Option.{option_map}
 use Rattle.callorder.specs.declared.calls.Call.{Call}
 use Rattle.callorder.specs.Programs.{MpiProgram, call_at}
-use Rattle.narrowing.specs.declared.taken.Taken.{Taken}
+use Rattle.narrowing.specs.declared.taken.ChoiceTaken.{ChoiceTaken}
 use Rattle.narrowing.specs.Narrowed.{narrowed_call, IsNarrowedAt}
 use Rattle.narrowing.proofs.narrowed.is_narrowed_at.Goals.{then-place-call, else-place-call}
 use Rattle.narrowing.proofs.narrowed.is_narrowed_at.Goals as goal
 
 -- at the call that is meant
-narrowed_there : (p q : MpiProgram) (call : ℕ) (way : Taken) (place : ℕ) (found wanted : Option Call) → place ≡ call → found ≡ call_at q place → wanted ≡ option_map (narrowed_call way) (call_at p place) → found ≡ wanted ↔ IsNarrowedAt p call way q place
+narrowed_there : (p q : MpiProgram) (call : ℕ) (way : ChoiceTaken) (place : ℕ) (found wanted : Option Call) → place ≡ call → found ≡ call_at q place → wanted ≡ option_map (narrowed_call way) (call_at p place) → found ≡ wanted ↔ IsNarrowedAt p call way q place
 narrowed_there p q call way place found wanted there is want =
     (λ same. record { same = λ differ. absurd (differ there); narrowed = λ _. sym is ∙ same ∙ want }, λ narrowed. is ∙ narrowed.narrowed there ∙ sym want)
 
 -- at another call
-same_elsewhere : (p q : MpiProgram) (call : ℕ) (way : Taken) (place : ℕ) (found wanted : Option Call) → (place ≡ call → ⊥) → found ≡ call_at q place → wanted ≡ call_at p place → found ≡ wanted ↔ IsNarrowedAt p call way q place
+same_elsewhere : (p q : MpiProgram) (call : ℕ) (way : ChoiceTaken) (place : ℕ) (found wanted : Option Call) → (place ≡ call → ⊥) → found ≡ call_at q place → wanted ≡ call_at p place → found ≡ wanted ↔ IsNarrowedAt p call way q place
 same_elsewhere p q call way place found wanted other is want =
     (λ same. record { same = λ _. sym is ∙ same ∙ want; narrowed = λ there. absurd (other there) }, λ narrowed. is ∙ narrowed.same other ∙ sym want)
 
