@@ -8,7 +8,9 @@ ghost use Rattle.finishing.specs.Formula.{is_unfinished_fact, is_unfinished_mean
 use crate::endings::all_ranks_finish;
 use clauses::{Clause, Formula, Lit};
 use encode::{EncodeFault, Encoded, normal_forms};
-use formula::{Fact, Meaning};
+use formula::{Fact, Meaning, Statement};
+use formula_families::Symbolic;
+use formula_tables::Variables;
 use std::alloc::{AllocError, Global};
 
 /// Whether the fact is that a rank is unfinished.
@@ -84,20 +86,31 @@ fn kept_clauses(alloc: Global, encoded: &Encoded) -> Result<Vec<Clause>, AllocEr
     Ok(kept)
 }
 
+/// The normal forms of these clauses; none where there are more than 4,000,000.
+fn few_normal_forms(
+    alloc: Global,
+    variables: &Variables<'_>,
+    clauses: &Symbolic<Statement>,
+) -> Result<Option<Vec<Clause>>, AllocError>
+    ensures { IfOk result (λ found. IfSome found (λ forms. forms.items ≡ numbered variables.now clauses.now)) }
+{
+    match normal_forms(alloc, variables, clauses) {
+        Ok(forms) => Ok(Some(forms)),
+        Err(EncodeFault::Memory) => Err(AllocError),
+        Err(EncodeFault::TooManyEvents) => Ok(None),
+        Err(EncodeFault::TooManyClauses) => Ok(None),
+    }
+}
+
 /// The clauses that say that all ranks finish, in their normal forms; none where there are more
 /// than 4,000,000.
 fn ending_clauses(alloc: Global, encoded: &Encoded) -> Result<Option<Vec<Clause>>, AllocError>
     ensures { IfOk result (λ found. IfSome found (λ clauses.
         clauses.items ≡ numbered encoded.now.program (all_ranks_finish encoded.now.program))) }
 {
-    let variables = encoded.variables(alloc)?;
     let endings = all_ranks_finish(alloc, encoded.program())?;
-    match normal_forms(alloc, &variables, &endings) {
-        Ok(clauses) => Ok(Some(clauses)),
-        Err(EncodeFault::Memory) => Err(AllocError),
-        Err(EncodeFault::TooManyEvents) => Ok(None),
-        Err(EncodeFault::TooManyClauses) => Ok(None),
-    }
+    let variables = encoded.variables(alloc)?;
+    few_normal_forms(alloc, &variables, &endings)
 }
 
 /// The formula of the runs that finish, by that of the stuck runs: without the clause that some

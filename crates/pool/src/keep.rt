@@ -145,6 +145,16 @@ fn tables(
     Ok((closed, known))
 }
 
+/// The formula, to be shared.
+fn shared(alloc: Global, encoded: Encoded) -> Result<Arc<Encoded>, AllocError>
+    ensures { IfOk result (λ shared. arc_value shared ≡ encoded) }
+{
+    match Arc::new(alloc, encoded) {
+        Ok(shared) => Ok(shared),
+        Err(_) => Err(AllocError),
+    }
+}
+
 impl Pool {
     /// The pool in which all leaves of the tree are open, and nothing else is. The tree has to be
     /// over as many variables as the formula has.
@@ -152,31 +162,21 @@ impl Pool {
         requires { tree.variables ≡ encoded.formula.variables }
         ensures { IfOk result (λ pool. pool ≡ opening_pool encoded tree) }
     {
-        let (closed, known) = tables(alloc, encoded.formula(), &tree)?;
-        match Arc::new(alloc, encoded) {
-            Ok(encoded) => Ok(Pool::opened(alloc, encoded, tree, closed, known)),
-            Err(_) => Err(AllocError),
-        }
+        let encoded = shared(alloc, encoded)?;
+        Pool::opened(alloc, encoded, tree)
     }
 
-    /// The pool with its tables, in which nothing was done yet.
-    fn opened(
-        alloc: Global,
-        encoded: Arc<Encoded>,
-        tree: Tree,
-        closed: Vec<u32>,
-        known: PartialAssignment,
-    ) -> Pool
-        requires variables { tree.variables ≡ (arc_value encoded).formula.variables }
-        requires closed { closed.items ≡ replicate (length tree.nodes) 0 }
-        requires known { length known ≡ (arc_value encoded).formula.variables + 1 }
-        ensures { result ≡ opening_pool (arc_value encoded) tree }
+    /// The pool of a shared formula, in which nothing was done yet.
+    fn opened(alloc: Global, encoded: Arc<Encoded>, tree: Tree) -> Result<Pool, AllocError>
+        requires { tree.variables ≡ (arc_value encoded).formula.variables }
+        ensures { IfOk result (λ pool. pool ≡ opening_pool (arc_value encoded) tree) }
     {
         let _program = encoded.program();
-        let _formula = encoded.formula();
+        let formula = encoded.formula();
         let _variables = tree.variables();
+        let (closed, known) = tables(alloc, formula, &tree)?;
         let open_leaves = leaves_of(&tree);
-        Pool {
+        Ok(Pool {
             encoded,
             tree,
             closed,
@@ -185,7 +185,7 @@ impl Pool {
             known,
             schedule: None,
             ledger: Ledger::new(alloc),
-        }
+        })
     }
 
     /// Appends the lines of a batch to the log, each `Own` hint as the number of the batch's line

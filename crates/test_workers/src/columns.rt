@@ -29,27 +29,62 @@ fn issue(rank: u32) -> Step {
     }
 }
 
+/// Which call each call finds, or is found by.
+const PARTNERS: [Option<usize>; 6] = [Some(3), Some(4), Some(5), Some(0), Some(1), Some(2)];
+
+/// Finders and their columns.
+const COLUMNS: [(usize, [bool; 6]); 3] = [
+    (0, [false, true, true, false, false, true]),
+    (2, [false, false, false, false, false, false]),
+    (4, [false, false, true, false, false, true]),
+];
+
+/// Whether this is the finder's column, where calls are issued in this order.
+fn is_column(
+    alloc: Global,
+    program: &LongProgram,
+    order: &[usize],
+    finder: usize,
+    column: &[bool],
+) -> Result<bool, Fail> {
+    let found = column_of(alloc, program, &PARTNERS, order, finder)?;
+    Ok(found.as_slice() == column)
+}
+
+/// The first finder that has another column, in this order or in none.
+fn other_column(
+    alloc: Global,
+    program: &LongProgram,
+    order: &[usize],
+) -> Result<Option<usize>, Fail> {
+    for (finder, column) in COLUMNS {
+        let is_same = is_column(alloc, program, order, finder, &column)?
+            && is_column(alloc, program, &[9], finder, &column)?;
+        if !is_same {
+            return Ok(Some(finder));
+        }
+    }
+    Ok(None)
+}
+
+/// The order in which the calls are issued, and the first finder that has another column.
+fn found_in(alloc: Global, program: &LongProgram) -> Result<(Vec<usize>, Option<usize>), Fail> {
+    let run = [issue(0), issue(1), issue(2), issue(0), issue(0), issue(2)];
+    let order = issue_order(alloc, program, &run)?;
+    let other = other_column(alloc, program, order.as_slice())?;
+    Ok((order, other))
+}
+
+/// The same, where the program is made.
+fn found(alloc: Global) -> Result<(Vec<usize>, Option<usize>), Fail> {
+    let program = program(alloc)?;
+    found_in(alloc, &program)
+}
+
 #[test]
 fn columns_of_three_ranks(rt: HostRuntime) -> Result<(), Fail> {
-    let alloc = rt.alloc();
-    let program = program(alloc)?;
-    let partners = [Some(3), Some(4), Some(5), Some(0), Some(1), Some(2)];
-    let run = [issue(0), issue(1), issue(2), issue(0), issue(0), issue(2)];
-    let order = issue_order(alloc, &program, &run)?;
-    assert_eq!(rt; order.as_slice(), [0, 3, 4, 1, 2, 5].as_slice());
-    for (finder, column) in [
-        (0, [false, true, true, false, false, true]),
-        (2, [false, false, false, false, false, false]),
-        (4, [false, false, true, false, false, true]),
-    ] {
-        let ordered = column_of(alloc, &program, &partners, order.as_slice(), finder)?;
-        assert_eq!(rt; ordered.as_slice(), column.as_slice(), "finder {finder}");
-        let unordered = column_of(alloc, &program, &partners, &[9], finder)?;
-        assert_eq!(rt;
-            unordered.as_slice(),
-            column.as_slice(),
-            "finder {finder}, in no order"
-        );
-    }
+    let (order, other) = found(rt.alloc())?;
+    assert!(rt; order.as_slice() == [0, 3, 4, 1, 2, 5].as_slice());
+    assert_eq!(rt; other, None);
     Ok(())
 }

@@ -122,39 +122,65 @@ fn learnt_without_a_cube<R: Threads + Wait + Sync>(
     Ok(cubes.patience.lines)
 }
 
-/// The first turn over sets of matched calls takes 4,000 lines; the formula needs more than 5,000.
-#[test]
-fn a_worker_without_a_cube_goes_on_over_sets(rt: HostRuntime) -> Result<(), Fail> {
-    let alloc = rt.alloc();
-    let encoded = encoded(&rt, alloc, MANY)?;
-    let share = opened(&rt, alloc, MANY, 0, Lie::Nothing)?;
-    let lines = learnt_without_a_cube(&rt, alloc, &encoded, &share)?;
-    assert!(rt; lines > 4_500, "{lines}");
-    assert!(rt; is_refuted(&rt, alloc, &share));
-    Ok(())
-}
-
-/// Whether one worker refutes the formula of this share, where it may write so few lines over sets
-/// of matched calls.
-fn refutes_with<R: Threads + Wait + Sync>(
+/// How many lines worker 0 learns of this share of [`MANY`] before it has a cube, and whether it
+/// refutes the formula then.
+fn learnt_in<R: Threads + Wait + Sync>(
     rt: &R,
     alloc: Global,
     share: &Fake,
+) -> Result<(u64, bool), Fail> {
+    let encoded = encoded(rt, alloc, MANY)?;
+    let lines = learnt_without_a_cube(rt, alloc, &encoded, share)?;
+    Ok((lines, is_refuted(rt, alloc, share)))
+}
+
+/// The same of a share of its own.
+fn learnt<R: Threads + Wait + Sync>(rt: &R, alloc: Global) -> Result<(u64, bool), Fail> {
+    let share = opened(rt, alloc, MANY, 0, Lie::Nothing)?;
+    learnt_in(rt, alloc, &share)
+}
+
+/// The first turn over sets of matched calls takes 4,000 lines; the formula needs more than 5,000.
+#[test]
+fn a_worker_without_a_cube_goes_on_over_sets(rt: HostRuntime) -> Result<(), Fail> {
+    let (lines, is_refuted) = learnt(&rt, rt.alloc())?;
+    assert!(rt; lines > 4_500, "{lines}");
+    assert!(rt; is_refuted);
+    Ok(())
+}
+
+/// Has one worker search [`SENDERS`] over this share, where it may write so few lines over sets of
+/// matched calls.
+fn worked_with<R: Threads + Wait + Sync>(
+    rt: &R,
+    alloc: Global,
+    share: &Fake,
+    cubes: &mut Supply,
     kept: u64,
-) -> Result<bool, Fail> {
+) -> Result<(), Fail> {
     let encoded = encoded(rt, alloc, SENDERS)?;
-    let mut cubes = leaves(rt, alloc, share)?;
     let kept = KeptLines::of(kept);
     worked_on(
         rt,
         alloc,
         &encoded,
         share,
-        &mut cubes,
+        cubes,
         &kept,
         Exploring::Always,
         WORKER,
-    )?;
+    )
+}
+
+/// Whether that worker refutes the formula of this share, whose cubes it takes.
+fn refutes_with<R: Threads + Wait + Sync>(
+    rt: &R,
+    alloc: Global,
+    share: &Fake,
+    kept: u64,
+) -> Result<bool, Fail> {
+    let mut cubes = leaves(rt, alloc, share)?;
+    worked_with(rt, alloc, share, &mut cubes, kept)?;
     Ok(is_refuted(rt, alloc, share))
 }
 
