@@ -72,7 +72,7 @@ pub fn put_turns(
     }
 }
 
-#[tactic(auto, unfolding(crate::specs::Told::named))]
+#[tactic(auto, unfolding(crate::specs::Told::name_between))]
 fn put_named(
     out: &mut Vec<u8>,
     before: &str,

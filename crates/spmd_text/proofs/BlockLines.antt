@@ -338,9 +338,9 @@ loop_tells {old} {head} {body} {ended} {name} {span} {inner} {n} {m} {k} block o
 
 -- what stands behind the statements of a branch ends where the branch does
 tail_ends : (level : Level) (s : Parser) (t : SpmdStatement) → level.block ≡ block_behind t → EndsBranch s t → EndsBlock level s
-tail_ends level s t is ends = by_open (lines.is_open t) refl
+tail_ends level s t is ends = by_open (lines.is_open_tail t) refl
   where
-    by_open : (b : Bool) → lines.is_open t ≡ b → EndsBlock level s
+    by_open : (b : Bool) → lines.is_open_tail t ≡ b → EndsBlock level s
     by_open true e =
         let at = is ∙ ap (λ (b : Bool). if b then lines.branch else lines.last) e in
         record { inner = ap is_inner at; ends = ends.ends; closed = λ f. ends.closed e }
@@ -424,8 +424,8 @@ else_then_tells {old} {head} {new} {n} {m} outer depth line told first sticks te
     }
 
 -- an `else` is the last branch
-pub else_shut : {scope : Scope} {depth : ℕ} (s : SpmdStatement) → Begins scope depth word.Else s → lines.is_open s ≡ true → ⊥
-else_shut s may e = let i = is_else s may.one may.begins in never_true (sym (ap lines.is_open i.is) ∙ e)
+pub else_shut : {scope : Scope} {depth : ℕ} (s : SpmdStatement) → Begins scope depth word.Else s → lines.is_open_tail s ≡ true → ⊥
+else_shut s may e = let i = is_else s may.one may.begins in never_true (sym (ap lines.is_open_tail i.is) ∙ e)
 
 not_going : (p : Piece) → nat_eq (code p) (code (piece.Word word.Elif)) ≡ false → nat_eq (code p) (code (piece.Word word.Else)) ≡ false → goes_on p ≡ false
 not_going (piece.Word word.Elif) e f = absurd (never_true (sym e))
@@ -443,7 +443,7 @@ none_ends {old} {mid} {new} same again no_elif no_else ends = record {
 pub when_ends : {s new : Parser} {line : ℕ} {chained : Bool} {c : Expression} {a b made : SpmdStatement} → EndsBranch s b → IsWhen line chained c a b made → new ≡ s → EndsBranch new made
 when_ends {s} {new} ends m same = record {
   ends = ap (λ (p : Parser). is_end (next p)) same ∙ ends.ends;
-  closed = λ e. ap (λ (p : Parser). goes_on (next p)) same ∙ ends.closed (sym (ap lines.is_open m.is ∙ ap lines.is_open m.second_holds) ∙ e);
+  closed = λ e. ap (λ (p : Parser). goes_on (next p)) same ∙ ends.closed (sym (ap lines.is_open_tail m.is ∙ ap lines.is_open_tail m.second_holds) ∙ e);
 }
 
 pub made_ends : {old new : Parser} {Made : Type 0} → MakesOrLacksMemory old new Made → (old.fault ≡ None → is_end (next old) ≡ true) → new.fault ≡ None → is_end (next new) ≡ true

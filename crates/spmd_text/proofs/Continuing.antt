@@ -278,10 +278,10 @@ pub record Inner (kind : Prefix) (least depth : ℕ) (in_parameter : Bool) (p : 
   pub first : List Token
   pub behind : List Token
   pub begins : after_piece begin (Some here) ≡ Some first
-  pub spelled : after_expression a (Some first) ≡ Some behind_next
-  pub ends : ends_prefix kind a behind_next rest
+  pub spelled : after_expression a (Some first) ≡ Some behind
+  pub ends : ends_prefix kind a behind rest
   pub within : IsTreeWithin (depth - 1) in_parameter a
-  pub stand : MayStandAmongJoints (inside kind least) a behind_next
+  pub stand : MayStandAmongJoints (inside kind least) a behind
 
 if_four : (least n : ℕ) → (4 ≤ least → 4 ≤ n) → (if nat_le 4 least then 4 else 0) ≤ n
 if_four least n h = go (nat_le 4 least) refl
@@ -367,8 +367,8 @@ pub record ChoiceAhead (depth : ℕ) (in_parameter : Bool) (c a b : Expression) 
   pub condition : IsTreeWithin (depth - 1) in_parameter c
   pub yes : IsTreeWithin (depth - 1) in_parameter a
   pub no : IsTreeWithin (depth - 1) in_parameter b
-  pub condition_stands : MayStandAmongJoints 0 c parts_in_row.condition_end
-  pub yes_stands : MayStandAmongJoints 4 a parts_in_row.yes_end
+  pub condition_stands : MayStandAmongJoints 0 c parts.condition_end
+  pub yes_stands : MayStandAmongJoints 4 a parts.yes_end
   pub no_stands : MayStandAmongJoints 4 b rest
   pub is_condition_so : is_condition c ≡ true
   pub yes_number : is_condition a ≡ false

@@ -148,7 +148,7 @@ impl Lexer {
     }
 
     /// Ends the last line, and the text.
-    #[tactic(auto, unfolding(crate::specs::Tokens::finished))]
+    #[tactic(auto, unfolding(crate::specs::Tokens::text_finished))]
     fn finish(&mut self, alloc: Global) -> Result<(), Halt>
         ensures { Steps result (text_finished (seen self.old)) (seen self.new) }
     {

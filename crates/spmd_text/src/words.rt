@@ -14,7 +14,7 @@ pub(crate) fn is(word: &[u8], text: &str) -> bool
 }
 
 /// The word of the language that is spelled so.
-#[tactic(auto, unfolding(crate::specs::Words::word_of))]
+#[tactic(auto, unfolding(crate::specs::Words::keyword_of))]
 pub(crate) fn word_of(word: &[u8]) -> Option<Word>
     ensures { result ≡ keyword_of word.now }
 {
@@ -37,7 +37,7 @@ pub(crate) fn word_of(word: &[u8]) -> Option<Word>
 }
 
 /// A word of parameters, of `let` and of loops, or one of those below.
-#[tactic(auto, unfolding(crate::specs::Words::block_of))]
+#[tactic(auto, unfolding(crate::specs::Words::block_keyword))]
 fn block_of(word: &[u8]) -> Option<Word>
     ensures { result ≡ block_keyword word.now }
 {
@@ -83,7 +83,7 @@ fn branch_of(word: &[u8]) -> Option<Word>
 }
 
 /// A word that stands in calls and expressions, or one of those below.
-#[tactic(auto, unfolding(crate::specs::Words::part_of))]
+#[tactic(auto, unfolding(crate::specs::Words::part_keyword))]
 fn part_of(word: &[u8]) -> Option<Word>
     ensures { result ≡ part_keyword word.now }
 {
@@ -169,7 +169,7 @@ fn send_of(word: &[u8]) -> Option<Word>
 }
 
 /// A further send's word, a receive's, or one of those below.
-#[tactic(auto, unfolding(crate::specs::Words::receive_of))]
+#[tactic(auto, unfolding(crate::specs::Words::receive_keyword))]
 fn receive_of(word: &[u8]) -> Option<Word>
     ensures { result ≡ receive_keyword word.now }
 {
