@@ -56,14 +56,14 @@ one_more_way p call taken send others way fit is other old =
     }
 
 -- past the end there is no send
-pub all_other : (p : MpiProgram) (call : ℕ) (taken : Taken) (count : ℕ) (others : List Taken) → length p.calls ≤ count → AreOthersBelow p call taken count others → AreOtherMessages p call taken others
+pub all_other : (p : MpiProgram) (call : ℕ) (taken : ChoiceTaken) (count : ℕ) (others : List ChoiceTaken) → length p.calls ≤ count → AreOthersBelow p call taken count others → AreOtherMessages p call taken others
 all_other p call taken count others end below =
     record {
       all = λ s w fits said.
           elim (cases_lt s (length p.calls)) [
             | inl within ↦ below.all s w (omega arith) fits said
             | inr out ↦
-                let none : ◌≡◌ {A = Option Taken} None (Some w) = sym (ap way_to_call (slice_get_past p.calls s out)) ∙ said in
+                let none : ◌≡◌ {A = Option ChoiceTaken} None (Some w) = sym (ap way_to_call (slice_get_past p.calls s out)) ∙ said in
                 let never : ⊥ = cc in absurd never
           ];
       each = below.each;
