@@ -11,7 +11,7 @@ use Rattle.calltext.specs.Grammar.{CallFits}
 use Rattle.calltext.specs.Limits.{long}
 use Rattle.calltext.specs.parts.Printed.{heads, rank_text, ranks_text}
 use Rattle.calltext.proofs.PrintLaws.{ranks_text-push, text_is}
-use Rattle.spmd_text.specs.declared.reading.SpmdPolicy.{Policy as Buffering}
+use Rattle.spmd_text.specs.declared.reading.SpmdPolicy.{SpmdPolicy}
 use Rattle.unroll.specs.declared.call.Placed.{Placed}
 use Rattle.spmd_program.specs.Lines.{lines_of_calls}
 use Rattle.spmd_program.specs.parts.Programs.{AreRanksWritten, IsRankWritten}
@@ -72,7 +72,7 @@ all_fit names [] h = tt
 all_fit names (part ∷ parts) h = (h.0, all_fit names parts h.1)
 
 -- all ranks are written behind the headings
-pub all_ranks_begun : (p : Buffering) (names : List (Vec ℕ)) (calls left : List Placed) (size : ℕ) (old new : List ℕ) → old ≡ heads size (policy_of_buffering p) → left ≡ []
+pub all_ranks_begun : (p : SpmdPolicy) (names : List (Vec ℕ)) (calls left : List Placed) (size : ℕ) (old new : List ℕ) → old ≡ heads size (policy_of_buffering p) → left ≡ []
     → 1 ≤ size → size ≤ 2147483647 → length new ≤ 9223372036854775807 → AreRanksBegun names calls left size old new → IsProgramText p names size calls new
 all_ranks_begun p names calls left size old new head over some most small begun =
     let f : List Placed → List CallLine = λ x. lines_of_calls names x in

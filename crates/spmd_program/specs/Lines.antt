@@ -6,7 +6,7 @@ use Rattle.calltext.specs.declared.call.CallLine.{CallLine}
 use Rattle.calltext.specs.declared.call.CallLine.TheVariants as line
 use Rattle.calltext.specs.declared.call.Mode.{Mode}
 use Rattle.calltext.specs.declared.call.Mode.TheVariants as mode
-use Rattle.spmd_tree.specs.declared.tree.SendMode.{Mode as Manner}
+use Rattle.spmd_tree.specs.declared.tree.SendMode.{SendMode}
 use Rattle.spmd_tree.specs.declared.tree.SendMode.TheVariants as manner
 use Rattle.unroll.specs.declared.call.Label.{Label}
 use Rattle.unroll.specs.declared.call.UnrolledCall.{UnrolledCall}
@@ -37,7 +37,7 @@ spelled_request names (Some l) = Some (spelled names l)
 
 -- ---- parts of a line
 
-abbrev pub mode_of : Manner → Mode
+abbrev pub mode_of : SendMode → Mode
 mode_of manner.Standard = mode.Standard
 mode_of manner.Synchronous = mode.Synchronous
 mode_of manner.Buffered = mode.Buffered
