@@ -6,6 +6,10 @@ import sys
 ROOT = os.path.dirname(os.path.dirname(os.path.dirname(os.path.abspath(__file__))))
 EXAMPLES = os.path.join(ROOT, 'examples')
 
+# What may stand below the line that tells which file failed.
+WHY = {b'no such file or folder\n', b"its rights don't allow it\n", b'it is a folder\n', b'a part of its path is no folder\n',
+       b'its file system takes no change\n', b'the disk is full\n'}
+
 
 def built_program():
     """The program that MPIPROVE names, else the one that ./build made."""

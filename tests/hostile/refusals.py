@@ -17,7 +17,7 @@ import sys
 import tempfile
 from collections import namedtuple
 
-from program import EXAMPLES, built_program, built_shim, content, has_trim, put, run
+from program import EXAMPLES, WHY, built_program, built_shim, content, has_trim, put, run
 
 SECONDS = 10
 SHOWN = 3
@@ -346,11 +346,6 @@ def try_pieces(trial, _):
     counts = [threads_started(trial, ['check', *REFUTED, '--pieces', pieces]) for pieces in ('1', '4', '16', '64')]
     got = trial.plain_outcome(Row(0, ['check', *REFUTED, '--pieces', '64']))
     trial.note('pieces', ['check', '--pieces', '1', '4', '16', '64'], got, f'threads: {counts}', counts == sorted(set(counts)))
-
-
-# What may stand below the line that tells which file failed.
-WHY = {b'no such file or folder\n', b"its rights don't allow it\n", b'it is a folder\n', b'a part of its path is no folder\n',
-       b'its file system takes no change\n', b'the disk is full\n'}
 
 
 def fault_told(row, got):

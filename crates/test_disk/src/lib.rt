@@ -1,11 +1,11 @@
-//! Files and streams in memory, of which one open, read or write may meet trouble. Tests run the
-//! program over them.
+//! Files in memory: some that tell what they hold, so that the laws of runs hold of something, and
+//! one that is read and written in short pieces.
 #![tactic(auto)]
 
 mod disk;
 mod shelf;
-mod stream;
+#[cfg(test)]
+mod tests;
 
-pub use disk::{Disk, DiskFiles, DiskReader, DiskWriter, Trouble};
+pub use disk::{Disk, DiskFiles, DiskReader, DiskWriter};
 pub use shelf::Shelf;
-pub use stream::Stream;

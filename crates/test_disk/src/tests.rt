@@ -1,9 +1,8 @@
 //! Long contents, in pieces, and files that tell what they hold.
+use crate::{Disk, DiskFiles, Shelf};
 use files::{Extent, FileSet, LoadFault, OpenFault, store};
 use std::alloc::{AllocError, Global};
-use std::cell::{Cell, RefCell};
 use std::test::Fail;
-use test_disk::{Disk, DiskFiles, Shelf, Trouble};
 
 /// More bytes than 4,096 reads or writes move.
 const LONG: u32 = 40_000;
@@ -24,15 +23,7 @@ fn long_bytes(alloc: Global) -> Result<Vec<u8>, AllocError> {
 fn moves_long_contents(rt: HostRuntime) -> Result<(), Fail> {
     let alloc = rt.alloc();
     let bytes = long_bytes(alloc)?;
-    let disk = Disk {
-        program: &bytes,
-        evidence: b"",
-        written: RefCell::new(Vec::new(alloc)),
-        writers: Cell::new(0),
-        steps: Cell::new(0),
-        trouble_at: 0,
-        trouble: Trouble::Device,
-    };
+    let disk = Disk::of(alloc, &bytes);
     let mut files = DiskFiles { disk: &disk };
     let loaded = files.read(alloc, "program", &ALL)?;
     assert!(rt; loaded == bytes);
@@ -45,15 +36,7 @@ fn moves_long_contents(rt: HostRuntime) -> Result<(), Fail> {
 
 /// How many bytes of the file `program` are read to this extent, where it holds these bytes.
 fn count_read(alloc: Global, bytes: &[u8], extent: &Extent<'_>) -> Result<usize, Fail> {
-    let disk = Disk {
-        program: bytes,
-        evidence: b"",
-        written: RefCell::new(Vec::new(alloc)),
-        writers: Cell::new(0),
-        steps: Cell::new(0),
-        trouble_at: 0,
-        trouble: Trouble::Device,
-    };
+    let disk = Disk::of(alloc, bytes);
     let read = DiskFiles { disk: &disk }.read(alloc, "program", extent)?;
     Ok(read.len())
 }
@@ -62,26 +45,15 @@ fn count_read(alloc: Global, bytes: &[u8], extent: &Extent<'_>) -> Result<usize,
 fn reads_no_further_than_needed(rt: HostRuntime) -> Result<(), Fail> {
     let alloc = rt.alloc();
     let bytes = long_bytes(alloc)?;
+    let front = Extent::Begins(b"evidence ");
+    let evidence = b"evidence 1\nschedule\n";
     // A read moves seven bytes.
     assert_eq!(rt; count_read(alloc, &bytes, &Extent::Most(40_000))?, 40_000);
     assert_eq!(rt; count_read(alloc, &bytes, &Extent::Most(69))?, 70);
     assert_eq!(rt; count_read(alloc, &bytes, &Extent::Most(70))?, 77);
-    assert_eq!(rt;
-        count_read(alloc, &bytes, &Extent::Begins(b"evidence "))?,
-        14
-    );
-    assert_eq!(rt;
-        count_read(alloc, b"evidence", &Extent::Begins(b"evidence "))?,
-        8
-    );
-    assert_eq!(rt;
-        count_read(
-            alloc,
-            b"evidence 1\nschedule\n",
-            &Extent::Begins(b"evidence ")
-        )?,
-        20
-    );
+    assert_eq!(rt; count_read(alloc, &bytes, &front)?, 14);
+    assert_eq!(rt; count_read(alloc, b"evidence", &front)?, 8);
+    assert_eq!(rt; count_read(alloc, evidence, &front)?, 20);
     Ok(())
 }
 
@@ -98,11 +70,10 @@ fn a_shelf_holds_what_was_written(rt: HostRuntime) -> Result<(), Fail> {
     assert!(rt; bytes.as_slice() == b"ranks 1".as_slice());
     let bytes = shelf.read(alloc, "evidence", &ALL)?;
     assert!(rt; bytes.as_slice() == b"evidence 1".as_slice());
-    assert_eq!(rt;
-        shelf.read(alloc, "out", &ALL).err(),
-        Some(LoadFault::Device)
-    );
-    assert_eq!(rt; shelf.open_write("program").err(), Some(OpenFault::Device));
+    let unread = shelf.read(alloc, "out", &ALL).err();
+    assert_eq!(rt; unread, Some(LoadFault::Device));
+    let unopened = shelf.open_write("program").err();
+    assert_eq!(rt; unopened, Some(OpenFault::Device));
     let mut writer = shelf.open_write("out")?;
     store(&mut writer, b"schedule")?;
     shelf.close("out", writer)?;
