@@ -512,7 +512,11 @@ def try_all(trial, kinds, picked):
 
 def main():
     """Tries the kinds and commands that were asked for; status 1 where a run went wrong."""
-    trial = Trial(built_program())
+    program = built_program()
+    if not shutil.which('gcc'):
+        print('left out, since there is no gcc\n0 passed, 0 failed, 1 skipped')
+        return
+    trial = Trial(program)
     try:
         try_all(trial, *chosen(sys.argv[1:], list(rows(has_trim(trial.program)))))
     finally:
@@ -520,7 +524,9 @@ def main():
             shutil.rmtree(trial.folder)
     if trial.wrong:
         print(f'the texts and the shim stand in {trial.folder}')
-        sys.exit(1)
+    failed = sum(trial.wrong.values())
+    print(f'{sum(trial.runs.values()) - failed} passed, {failed} failed')
+    sys.exit(failed > 0 or not trial.runs)
 
 
 if __name__ == '__main__':
