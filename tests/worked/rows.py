@@ -18,6 +18,7 @@ with a backslash.
 """
 import concurrent.futures
 import errno
+import glob
 import os
 import pty
 import re
@@ -148,8 +149,11 @@ def at_terminal(words, folder):
         told = []
         reader = threading.Thread(target=read_terminal, args=(ours, told))
         reader.start()
-        output, _ = started.communicate(timeout=SECONDS)
-        reader.join()
+        try:
+            output, _ = started.communicate(timeout=SECONDS)
+        finally:
+            started.kill()
+            reader.join()
     os.close(ours)
     return started.returncode, output, b''.join(told).replace(b'\r\n', b'\n')
 
@@ -164,7 +168,8 @@ def read_terminal(ours, told):
 
 
 def written_in(folder, before):
-    """What a run wrote: the content of the file `out`, or else those of all files that are new or changed, by their paths. None for no file."""
+    """What a run wrote: the content of the file `out`, or else those of all files that are new or changed, by their paths. None for no
+    file."""
     paths = [os.path.relpath(os.path.join(at, name), folder) for at, _, names in os.walk(folder) for name in names]
     found = {path: content(folder, path) for path in paths if path not in ('nowhere', 'refused')}
     changed = {path: text for path, text in found.items() if before.get(path) != text}
@@ -200,7 +205,7 @@ def misses(runs, row):
         first, _, then = words.partition(' then ')
         if then:
             ended = runs.run(first.split(), program, b'')
-            if is_met(row, ended) and ended.written is not None:
+            if is_met(row, ended) and isinstance(ended.written, bytes):
                 first, ended = then, runs.run(then.split(), program, ended.written)
             is_right = first == then and is_met(row, ended) and ended.written is None
         else:
@@ -263,12 +268,12 @@ def judged(runs, where, row):
 
 def main(paths):
     program = built_program()
-    files = [os.path.abspath(path) for path in paths] or sorted(os.path.join(HERE, name) for name in os.listdir(HERE) if name.endswith('.rows'))
+    files = [os.path.abspath(path) for path in paths] or sorted(glob.glob(os.path.join(HERE, '*.rows')))
     rows = [(f'{os.path.basename(path)} line {number}', row) for path in files for number, row in rows_of(path)]
     if not paths:
         rows += [(f'evidence cut to {row.evidence}', row) for row in cut_rows()]
     passed = failed = skipped = 0
-    with tempfile.TemporaryDirectory(prefix='rows-', dir='/dev/shm' if os.path.isdir('/dev/shm') else None) as room:
+    with tempfile.TemporaryDirectory(prefix='rows-') as room:
         runs = Runs(program, room)
         with concurrent.futures.ThreadPoolExecutor(os.cpu_count()) as pool:
             for holds, told in pool.map(lambda each: judged(runs, *each), rows):
