@@ -7,7 +7,7 @@ be missing. Empty lines and those that begin with `#` are no rows, and a row goe
 with a backslash.
 
 - In a text `/` stands for the end of a line, `~` for `|` and `%` for `/`. An output that ends with `...`
-  may go on. What is told below `file PATH` of why it failed isn't compared.
+  may go on. What is told below `file PATH` of why it failed, or once a second, isn't compared.
 - `{N PART}` stands for N times PART, in which others may stand, and `{FIRST..LAST PART}` for PART
   with each of these numbers, where `#` in PART is the number and `#+N` one that is greater by N.
 - `FIRST then SECOND` are two runs, and what the first writes is the evidence of the second, which writes
@@ -36,6 +36,7 @@ from program import WHY, built_program, built_shim, content, put
 
 SECONDS = 120
 MOST_OPENS = 9
+EACH_SECOND = re.compile(rb'progress \d+ s: ')
 Row = namedtuple('Row', 'commands program evidence status output errors written')
 Ended = namedtuple('Ended', 'status output errors written')
 
@@ -176,17 +177,18 @@ def written_in(folder, before):
     return changed['out'] if list(changed) == ['out'] else changed or None
 
 
-def without_why(errors):
-    """Standard error without the line that says why a file failed."""
-    told = errors.splitlines(True)
-    return told[0] if len(told) == 2 and told[0].startswith(b'file ') and told[1] in WHY else errors
+def comparable(errors, status):
+    """Standard error without the line that says why a file failed, and without what is told once a second, which depends on the machine."""
+    told = [line for line in errors.splitlines(True) if not EACH_SECOND.match(line)]
+    if status == 5 and len(told) == 2 and told[0].startswith(b'file ') and told[1] in WHY:
+        told.pop()
+    return b''.join(told)
 
 
 def is_met(row, ended):
     """Whether a run ended and told what the row says."""
     status = int(row.status)
-    errors = without_why(ended.errors) if status == 5 else ended.errors
-    return ended.status == status and is_told(row.output, ended.output) and is_told(row.errors, errors)
+    return ended.status == status and is_told(row.output, ended.output) and is_told(row.errors, comparable(ended.errors, status))
 
 
 def has_written(row, ended):
