@@ -32,6 +32,7 @@ from collections import namedtuple
 
 HERE = os.path.dirname(os.path.abspath(__file__))
 sys.path.insert(0, os.path.join(os.path.dirname(HERE), 'hostile'))
+from exported import judged_exports
 from program import WHY, built_program, built_shim, content, put
 
 SECONDS = 120
@@ -201,7 +202,7 @@ def misses(runs, row):
     """The runs of a row that don't leave what it says, each with what it left. None where they can't be made here."""
     path = row.program.removeprefix('@')
     program = lines(unfolded(row.program)).encode() if path == row.program else content(HERE, path)
-    evidence = lines(unfolded(row.evidence)).encode()
+    evidence = lines(unfolded(row.evidence)).encode('utf-8', 'surrogateescape')
     found = []
     for words in row.commands.split(' ; '):
         first, _, then = words.partition(' then ')
@@ -235,9 +236,19 @@ def cut_rows():
             yield Row('check program evidence', program, cut, '3', told, '', '')
 
 
+def foreign_rows():
+    """Evidence with a byte that stands in no text at each of its places, and what `check` says of it: which line can't be read."""
+    evidence = 'evidence 1/refutation 2 3/line : 1/line -1 2 : 2 3/tree/split 1/leaf 4/split 2/leaf 5/leaf 1/'
+    for place in range(len(evidence)):
+        for byte in ['\0', '\t', '\r', '%', '\x7f', '\udc80', '\udcff']:
+            told = f'refused evidence line {evidence[:place].count("/") + 1} syntax'
+            changed = evidence[:place] + byte + evidence[place + 1:]
+            yield Row('check program evidence', 'ranks 1/policy any/rank 0/bsend 0 1/', changed, '3', told, '', '')
+
+
 def keeps_what_it_should(program, room):
     """Whether a file that is written through a link, and one in the place of another, keeps the link, its rights and files of others,
-    which have the first name that a file beside it would have."""
+    which have the first name that a file beside it would have; and in words what is looked at."""
     with tempfile.TemporaryDirectory(dir=room) as folder:
         shutil.copy(os.path.join(HERE, 'relay.mpi'), folder)
         put(folder, 'relay.evidence.0.part', "another's")
@@ -252,9 +263,10 @@ def keeps_what_it_should(program, room):
             ends.append((ran.returncode, ran.stdout))
         mode = stat.S_IMODE(os.stat(at('relay.evidence')).st_mode)
         names = sorted(os.listdir(folder))
-        return (ends == [(0, b'no deadlock\n')] * 4 and os.path.islink(at('linked')) and mode == 0o640
-                and content(folder, 'relay.evidence.0.part') == b"another's"
-                and names == ['linked', 'relay.evidence', 'relay.evidence.0.part', 'relay.mpi'])
+        return 'what stands beside a file that is written stays', (
+            ends == [(0, b'no deadlock\n')] * 4 and os.path.islink(at('linked')) and mode == 0o640
+            and content(folder, 'relay.evidence.0.part') == b"another's"
+            and names == ['linked', 'relay.evidence', 'relay.evidence.0.part', 'relay.mpi'])
 
 
 def judged(runs, where, row):
@@ -273,7 +285,7 @@ def main(paths):
     files = [os.path.abspath(path) for path in paths] or sorted(glob.glob(os.path.join(HERE, '*.rows')))
     rows = [(f'{os.path.basename(path)} line {number}', row) for path in files for number, row in rows_of(path)]
     if not paths:
-        rows += [(f'evidence cut to {row.evidence}', row) for row in cut_rows()]
+        rows += [(f'the evidence {row.evidence!a}', row) for row in (*cut_rows(), *foreign_rows())]
     passed = failed = skipped = 0
     with tempfile.TemporaryDirectory(prefix='rows-') as room:
         runs = Runs(program, room)
@@ -282,11 +294,10 @@ def main(paths):
                 passed, failed, skipped = passed + (holds is True), failed + (holds is False), skipped + (holds is None)
                 if told:
                     print(told, flush=True)
-        if not paths:
-            kept = keeps_what_it_should(program, room)
-            passed, failed = passed + kept, failed + (not kept)
-            if not kept:
-                print("a file that was written through a link or in another's place isn't as it should be")
+        for what, holds in () if paths else [*judged_exports(program, room), keeps_what_it_should(program, room)]:
+            passed, failed = passed + holds, failed + (not holds)
+            if not holds:
+                print(f"it doesn't hold: {what}")
     print(f'{passed} passed, {failed} failed' + (f', {skipped} skipped' if skipped else ''))
     sys.exit(failed > 0 or passed == 0)
 
