@@ -36,6 +36,8 @@ from exported import judged_exports
 from program import WHY, built_program, built_shim, content, put
 
 SECONDS = 120
+# Help tells the name by which the program was called.
+NAME = 'mpiprove'
 MOST_OPENS = 9
 EACH_SECOND = re.compile(rb'progress \d+ s: ')
 Row = namedtuple('Row', 'commands program evidence status output errors written')
@@ -120,8 +122,8 @@ class Runs:
 
     def start(self, words, folder):
         """The status and both outputs of a run in a folder; for the file `memory` one for whose opening memory lacks."""
-        if words[0] == 'terminal:':
-            return at_terminal([self.program, *words[1:]], folder)
+        if words[:1] == ['terminal:']:
+            return at_terminal(self.program, words[1:], folder)
         if 'memory' not in words:
             return self.call(words, folder, {})
         if self.shim is None:
@@ -138,15 +140,16 @@ class Runs:
         return self.call(words, folder, {})
 
     def call(self, words, folder, settings):
-        ran = subprocess.run([self.program, *words], cwd=folder, stdin=subprocess.DEVNULL, stdout=subprocess.PIPE,
+        ran = subprocess.run([NAME, *words], executable=self.program, cwd=folder, stdin=subprocess.DEVNULL, stdout=subprocess.PIPE,
                              stderr=subprocess.PIPE, env={**os.environ, **settings}, timeout=SECONDS)
         return ran.returncode, ran.stdout, ran.stderr
 
 
-def at_terminal(words, folder):
+def at_terminal(program, words, folder):
     """The status and both outputs of a run whose standard error is a terminal."""
     ours, theirs = pty.openpty()
-    with subprocess.Popen(words, cwd=folder, stdin=subprocess.DEVNULL, stdout=subprocess.PIPE, stderr=theirs) as started:
+    with subprocess.Popen([NAME, *words], executable=program, cwd=folder, stdin=subprocess.DEVNULL, stdout=subprocess.PIPE,
+                          stderr=theirs) as started:
         os.close(theirs)
         told = []
         reader = threading.Thread(target=read_terminal, args=(ours, told))
