@@ -146,8 +146,11 @@ class Runs:
 
 
 def at_terminal(program, words, folder):
-    """The status and both outputs of a run whose standard error is a terminal."""
-    ours, theirs = pty.openpty()
+    """The status and both outputs of a run whose standard error is a terminal, or None where the system has none to give."""
+    try:
+        ours, theirs = pty.openpty()
+    except OSError:
+        return None
     with subprocess.Popen([NAME, *words], executable=program, cwd=folder, stdin=subprocess.DEVNULL, stdout=subprocess.PIPE,
                           stderr=theirs) as started:
         os.close(theirs)
