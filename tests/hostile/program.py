@@ -1,4 +1,4 @@
-"""What both scripts need of the built program: where it stands, and a run of it with a limit of time."""
+"""What the scripts need of the built program: where it stands, and a run of it with a limit of time."""
 import os
 import subprocess
 import sys

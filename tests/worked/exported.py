@@ -48,7 +48,7 @@ def proof_of(text):
 
 
 def derives(clauses, clause, hints):
-    """Whether the hints lead from the negation of the clause to a conflict, at the last one and not before."""
+    """Whether the hints lead from the negation of the clause to a conflict at the last one, and each before it makes a literal true."""
     known, is_refuted = {-literal for literal in clause}, False
     for hint in hints:
         if is_refuted or not 0 < hint <= len(clauses):
@@ -72,7 +72,7 @@ def refutes(formula, proof):
 
 
 def needs_each_hint(formula, proof):
-    """Whether the proof refutes the formula no more without any one of its hints."""
+    """Whether the proof refutes the formula no more, whichever one of its hints is left out."""
     for place, (number, clause, hints) in enumerate(proof):
         for left_out in range(len(hints)):
             line = number, clause, hints[:left_out] + hints[left_out + 1:]
@@ -82,7 +82,7 @@ def needs_each_hint(formula, proof):
 
 
 class Exports:
-    """Runs of the built program over one program, in a folder of its own."""
+    """Runs of the built program over one text, in a folder of its own."""
 
     def __init__(self, built, room, name):
         self.built, self.folder = built, tempfile.mkdtemp(dir=room)

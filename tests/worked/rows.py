@@ -7,11 +7,11 @@ be missing. Empty lines and those that begin with `#` are no rows, and a row goe
 with a backslash.
 
 - In a text `/` stands for the end of a line, `~` for `|` and `%` for `/`. An output that ends with `...`
-  may go on. What is told below `file PATH` of why it failed, or once a second, isn't compared.
+  may go on, and has nothing written out by braces. What is told below `file PATH` of why it failed, or once a second, isn't compared.
 - `{N PART}` stands for N times PART, in which others may stand, and `{FIRST..LAST PART}` for PART
   with each of these numbers, where `#` in PART is the number and `#+N` one that is greater by N.
-- `FIRST then SECOND` are two runs, and what the first writes is the evidence of the second, which writes
-  nothing. `terminal: ` before the words makes standard error a terminal.
+- `FIRST then SECOND` are two runs that end and print alike, and what the first writes is the evidence of
+  the second, which writes nothing; the columns of both files aren't read. `terminal: ` before the words makes standard error a terminal.
 - Where the file `program` is `@PATH`, it is that file beside the rows. The file `nowhere` isn't there and
   can't be made, and for the file `memory` there is no memory. The files of the folder `folder` stand in the
   column of the evidence, or of `out` where they are written, each behind `== ` and its name.
@@ -38,6 +38,7 @@ from program import WHY, built_program, built_shim, content, put
 SECONDS = 120
 # Help tells the name by which the program was called.
 NAME = 'mpiprove'
+# So many opens are tried until the one of the file `memory` is met.
 MOST_OPENS = 9
 EACH_SECOND = re.compile(rb'progress \d+ s: ')
 Row = namedtuple('Row', 'commands program evidence status output errors written')
@@ -121,7 +122,8 @@ class Runs:
             return ended and Ended(*ended, written_in(folder, files))
 
     def start(self, words, folder):
-        """The status and both outputs of a run in a folder; for the file `memory` one for whose opening memory lacks."""
+        """The status and both outputs of a run in a folder. Where a word is `memory`, the open of that file is refused for want of memory,
+        and without gcc there is no such run."""
         if words[:1] == ['terminal:']:
             return at_terminal(self.program, words[1:], folder)
         if 'memory' not in words:
@@ -229,7 +231,7 @@ def misses(runs, row):
 
 def cut_rows():
     """Evidence that ends behind each of its bytes, and what `check` says of it: it lacks a line, or its last line lacks its end; but a
-    schedule that ends with one of its steps isn't stuck yet."""
+    schedule that ends with its heading or with one of its steps isn't stuck yet."""
     cuts = [('ranks 1/policy all/rank 0/send 0 1/recv 0 1/', 'evidence 1/refutation 17 45/line : 10 45 11 9 14 13/tree/leaf 46/', None),
             ('ranks 2/policy any/rank 0/ssend 1 5/recv 1 6/rank 1/mprobe h 0 5/send 0 6/mrecv h/',
              'evidence 1/schedule/issue 0/issue 1/match 1 3/issue 1/', 2)]
@@ -243,7 +245,8 @@ def cut_rows():
 
 
 def foreign_rows():
-    """Evidence with a byte that stands in no text at each of its places, and what `check` says of it: which line can't be read."""
+    """Evidence with a byte that stands in no text at each of its places, and what `check` says of it: which line can't be read. The `%`
+    is a `/` there."""
     evidence = 'evidence 1/refutation 2 3/line : 1/line -1 2 : 2 3/tree/split 1/leaf 4/split 2/leaf 5/leaf 1/'
     for place in range(len(evidence)):
         for byte in ['\0', '\t', '\r', '%', '\x7f', '\udc80', '\udcff']:
@@ -253,8 +256,8 @@ def foreign_rows():
 
 
 def keeps_what_it_should(program, room):
-    """Whether a file that is written through a link, and one in the place of another, keeps the link, its rights and files of others,
-    which have the first name that a file beside it would have; and in words what is looked at."""
+    """In words what is looked at, and whether it holds: a file that is written through a link keeps the link, one in the place of
+    another keeps its rights, and a stranger's file stays that has the name of the one that is written beside."""
     with tempfile.TemporaryDirectory(dir=room) as folder:
         shutil.copy(os.path.join(HERE, 'relay.mpi'), folder)
         put(folder, 'relay.evidence.0.part', "another's")
