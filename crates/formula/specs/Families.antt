@@ -275,10 +275,10 @@ abbrev pub seen_before_taken : MpiProgram → ℕ → ℕ → List SymbolicClaus
 seen_before_taken p send probe =
     map (λ taker. is_false (matched send probe) ∷ is_false (matched send taker) ∷ is_earlier (match_of probe) (match_of taker) ∷ []) (takers_of p send)
 
--- What is said of a send and a probe that fits it. Where the probe has seen the send, both are
--- issued, and before; the send is matched with no taker before; no later send is seen too; each
--- earlier send that fits the probe, and each earlier taker that the send fits, is matched before.
--- And where both are issued, the send is matched, or the probe has seen one.
+-- What is said of a send and a probe that fits it (`matched`: the probe has seen it). Where it has,
+-- both are issued, and before; the send is matched with no taker before; no later send is seen too;
+-- each earlier send that fits the probe, and each earlier taker that the send fits, is matched
+-- before. And where both are issued, the send is matched, or the probe has seen one.
 abbrev pub see_clauses : MpiProgram → ℕ → ℕ → List SymbolicClause
 see_clauses p send probe =
     issued_before_match send probe ++
@@ -308,12 +308,12 @@ clauses_in p (by_last_call clauses clause) = flat_map (clauses p) (last_calls p)
 clauses_in p (by_pair clauses) = flat_map (λ pair. clauses p pair.0 pair.1) (matching_pairs p)
 clauses_in p (by_see clauses) = flat_map (λ pair. clauses p pair.0 pair.1) (seeing_pairs p)
 
--- a family of clauses: what it says, and whether some clause states which of two events is earlier
+-- a family of clauses: what it says, and whether a clause may state which of two events is earlier
 pub record ClauseFamily : Type 0 where
   pub says : SymbolicBlocks
   pub states_order : Bool
 
--- a family that states an order
+-- a family that may state an order
 abbrev with_order : SymbolicBlocks → ClauseFamily
 with_order blocks = record { says = blocks; states_order = true }
 
