@@ -1,6 +1,6 @@
 -- What each program keeps.
 use Rattle.std.specs.Prelude.{◌≡◌, ℕ, ◌<◌, ◌≤◌, Bool, IsTrue, IfSome, List, length, Option, Some, slice_get}
-use Rattle.calltext.specs.Limits.{short}
+use Rattle.calltext.specs.Grammar.{short}
 use Rattle.calltext.specs.declared.limits.Limits.{Limits}
 use Rattle.callorder.specs.declared.calls.Call.{Call}
 use Rattle.callorder.specs.declared.calls.Kind.{Kind}

@@ -1,8 +1,7 @@
 -- What the loop over the lines of the ranks keeps.
 use Rattle.std.proofs.Common.{◌≡◌, ℕ, ◌+◌, ◌<◌, ◌≤◌, List, [], ◌∷◌, ◌++◌, length, refl, sym, ap, subst, ◌∙◌, append_assoc, arith}
 use Rattle.std.proofs.lemmas.List.{length-append}
-use Rattle.plaintext.specs.TextLines.{text_lines}
-use Rattle.plaintext.specs.Plain.{line_of}
+use Rattle.plaintext.specs.Plain.{line_of, text_lines}
 use Rattle.plaintext.proofs.Cuts.{no_line_of}
 use Rattle.calltext.specs.declared.call.CallLine.{CallLine}
 use Rattle.calltext.specs.declared.line.CallLineFault.{CallLineFault}

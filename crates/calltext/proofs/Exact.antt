@@ -1,8 +1,7 @@
 -- A text has one value, bytes have one fault, and never both.
 use Rattle.std.proofs.Common.{◌≡◌, ◌≢◌, ℕ, ◌+◌, ◌<◌, ◌≤◌, List, [], ◌∷◌, ◌++◌, Option, None, Some, length, get_or, refl, sym, ap, subst, ◌∙◌, append_assoc, arith, inl, inr, ◌⊎◌}
 use Rattle.std.specs.List.{AllByRecursion, join_with_byte}
-use Rattle.plaintext.specs.TextLines.{text_lines}
-use Rattle.plaintext.specs.Plain.{line_of}
+use Rattle.plaintext.specs.Plain.{line_of, text_lines}
 use Rattle.plaintext.specs.Fronts.{to_end, IsClosedUnderFronts, IsFirstFaultyLine}
 use Rattle.plaintext.proofs.Cuts.{first_part}
 use Rattle.plaintext.proofs.Ascii.{ascii_clash}
@@ -15,10 +14,9 @@ use Rattle.calltext.specs.declared.call.Policy.TheVariants as policies
 use Rattle.calltext.specs.declared.fault.ReadFault.{ReadFault}
 use Rattle.calltext.specs.declared.fault.ReadFault.TheVariants as faults
 use Rattle.calltext.specs.Readable.{AllHaveNames, IsText}
-use Rattle.calltext.specs.Grammar.{ProgramText, call_words, ranks_words, policy_word, policy_words, rank_words, rank_lines, program_lines, HasNames, Fits, IsTextWithin, UpTo, IsCommunicator, IsInRange, CallFits}
+use Rattle.calltext.specs.Grammar.{ProgramText, call_words, ranks_words, policy_word, policy_words, rank_words, rank_lines, program_lines, HasNames, Fits, IsTextWithin, UpTo, IsCommunicator, IsInRange, CallFits, short}
 use Rattle.calltext.specs.Fault.{CanGoOn, Why, HasFaultWithin, HasFault}
 use Rattle.calltext.specs.WiderLimits.{IsWithin}
-use Rattle.calltext.specs.Limits.{short}
 use Rattle.calltext.specs.declared.limits.Limits.{Limits}
 use Rattle.calltext.specs.RefusedWords.{refused_word, refused_words}
 use Rattle.calltext.proofs.Places.{refused_word_injective}

@@ -4,8 +4,7 @@ use Rattle.std.specs.Prelude.{⊤}
 use Rattle.std.specs.Str.{IsAscii, IsNotAscii}
 use Rattle.std.specs.List.{AllByRecursion}
 use Rattle.std.proofs.lemmas.List.{append-nil, length-append, map_push}
-use Rattle.plaintext.specs.TextLines.{text_lines}
-use Rattle.plaintext.specs.Plain.{line_of}
+use Rattle.plaintext.specs.Plain.{line_of, text_lines}
 use Rattle.plaintext.specs.Fronts.{to_end, BeginsWith}
 use Rattle.plaintext.proofs.Texts.{line_of_injective, text_joined}
 use Rattle.plaintext.proofs.FirstFaults.{heads, closed_begin}

@@ -3,8 +3,7 @@ use Rattle.std.proofs.Common.{◌≡◌, ◌≢◌, ℕ, ◌<◌, ◌≤◌, tru
 use Rattle.std.specs.Prelude.{codes, ◌&&◌, nat_le}
 use Rattle.std.specs.List.{AllByRecursion}
 use Rattle.std.proofs.lemmas.List.{append-nil}
-use Rattle.plaintext.specs.TextLines.{text_lines, IsPlain}
-use Rattle.plaintext.specs.Plain.{numeral, line_of}
+use Rattle.plaintext.specs.Plain.{numeral, line_of, text_lines, IsPlain}
 use Rattle.plaintext.proofs.Numerals.{IsPlain-numeral, numeral_injective}
 use Rattle.plaintext.proofs.Cuts.{no_line_of, parts, words_are, line_is, first_part}
 use Rattle.plaintext.proofs.Ascii.{plain_by_test}

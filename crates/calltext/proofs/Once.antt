@@ -4,8 +4,7 @@ use Rattle.std.specs.Str.{IsNotAscii}
 use Rattle.std.specs.List.{AllByRecursion}
 use Rattle.std.proofs.lemmas.List.{append-nil}
 use Rattle.std.proofs.lemmas.Str.Parse.{digit_from_value}
-use Rattle.plaintext.specs.TextLines.{text_lines, IsPlain}
-use Rattle.plaintext.specs.Plain.{numeral, line_of}
+use Rattle.plaintext.specs.Plain.{numeral, line_of, text_lines, IsPlain}
 use Rattle.plaintext.specs.Fronts.{to_end}
 use Rattle.plaintext.proofs.Numerals.{numeral_injective, AllDigits-numeral, AllDigits_at, numeral_nonempty}
 use Rattle.plaintext.proofs.FirstFaults.{heads}

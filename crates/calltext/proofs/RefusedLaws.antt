@@ -3,7 +3,7 @@ use Rattle.std.proofs.Common.{◌≡◌, ℕ, ◌<◌, Bool, true, List, [], ◌
 use Rattle.std.specs.Prelude.{nat_le, nat_lt, ◌&&◌}
 use Rattle.std.specs.List.{AllByRecursion, list_all}
 use Rattle.std.proofs.lemmas.List.Elements.{All-from_recursion, All-contains, Contains-get_or}
-use Rattle.plaintext.specs.TextLines.{IsPlain}
+use Rattle.plaintext.specs.Plain.{IsPlain}
 use Rattle.plaintext.proofs.Ascii.{plain_by_test}
 use Rattle.calltext.specs.RefusedWords.{refused_words, refused_word}
 use Rattle.calltext.proofs.Conjunctions.{and_true}

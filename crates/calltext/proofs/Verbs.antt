@@ -4,8 +4,7 @@ use Rattle.std.proofs.Common.{◌≡◌, ◌≢◌, ℕ, zero, suc, ◌+◌, ◌
 use Rattle.std.specs.Prelude.{codes, ◌&&◌, ◌||◌, nat_le, nat_lt, position, bytes_eq, unwrap_or}
 use Rattle.std.specs.List.{list_all}
 use Rattle.std.proofs.lemmas.List.{append-nil, get_or_append_left, length-append}
-use Rattle.plaintext.specs.TextLines.{IsPlain}
-use Rattle.plaintext.specs.Plain.{line_of}
+use Rattle.plaintext.specs.Plain.{line_of, IsPlain}
 use Rattle.plaintext.proofs.Ascii.{plain_by_test}
 use Rattle.plaintext.proofs.FirstFaults.{heads}
 use Rattle.calltext.proofs.Conjunctions.{and_true}

@@ -6,9 +6,8 @@ use Rattle.std.specs.Str.{IsAscii, IsNotAscii}
 use Rattle.plaintext.specs.Plain.{line_of}
 use Rattle.plaintext.specs.Fronts.{CanBegin, IsFirstFaultyLine}
 use Rattle.calltext.specs.Readable.{AllHaveNames}
-use Rattle.calltext.specs.Grammar.{ProgramText, Fits, IsTextWithin, program_lines}
+use Rattle.calltext.specs.Grammar.{ProgramText, Fits, IsTextWithin, program_lines, short}
 use Rattle.calltext.specs.WiderLimits.{IsWithin}
-use Rattle.calltext.specs.Limits.{short}
 use Rattle.calltext.specs.declared.limits.Limits.{Limits}
 use Rattle.calltext.specs.RefusedWords.{refused_word, refused_words}
 use Rattle.calltext.specs.declared.fault.ReadFault.{ReadFault}

@@ -1,7 +1,6 @@
 pub mod RefusedWords
 pub mod Names
 pub mod WiderLimits
-pub mod Limits
 pub mod Readable
 pub mod Grammar
 pub mod Fault

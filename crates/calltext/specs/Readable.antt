@@ -1,9 +1,8 @@
 -- Which texts can be read, whatever their numbers are, and within the short limits.
 use Rattle.std.specs.Prelude.{ℕ, List}
 use Rattle.std.specs.List.{AllByRecursion}
-use Rattle.calltext.specs.Limits.{short}
 use Rattle.calltext.specs.declared.limits.Limits.{Limits}
-use Rattle.calltext.specs.Grammar.{HasNames, IsTextWithin, ProgramText, text_of}
+use Rattle.calltext.specs.Grammar.{HasNames, IsTextWithin, ProgramText, text_of, short}
 
 -- Each call's names are names; this is what a program's text with numbers of any size keeps.
 abbrev pub AllHaveNames : ProgramText → Type 0

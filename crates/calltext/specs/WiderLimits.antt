@@ -1,7 +1,7 @@
 -- Which limits allow what others do.
 use Rattle.std.specs.Prelude.{◌≤◌}
 use Rattle.calltext.specs.declared.limits.Limits.{Limits}
-use Rattle.calltext.specs.Limits.{long, short}
+use Rattle.calltext.specs.Grammar.{long, short}
 
 -- What is within the first limits is within the second ones.
 pub record IsWithin (l m : Limits) : Type 0 where

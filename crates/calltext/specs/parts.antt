@@ -1,5 +1,4 @@
 pub mod Body
 pub mod Capped
 pub mod Item
-pub mod Printed
 pub mod Verbs

@@ -1,7 +1,7 @@
 //! How large a program's text may be.
 
 ghost use Rattle.std.specs.Prelude.{◌≡◌};
-ghost use Rattle.calltext.specs.Limits.{long, short};
+ghost use Rattle.calltext.specs.Grammar.{long, short};
 
 /// The limits of a program's text. A text is read within limits, and its grammar is the same
 /// whatever they are: what lies beyond a limit is told as that, and never as a line of the wrong

@@ -1,12 +1,11 @@
 //! Printing a program's text.
 
 ghost use Rattle.std.specs.Prelude.{◌≡◌, ◌∷◌, ◌++◌, [], ◌≤◌, length, OnOk, IfOk};
-ghost use Rattle.plaintext.specs.TextLines.{spaced};
-ghost use Rattle.plaintext.specs.Plain.{line_of, numeral};
+ghost use Rattle.plaintext.specs.Plain.{line_of, numeral, spaced};
 ghost use Rattle.calltext.specs.Readable.{IsText};
 ghost use Rattle.calltext.specs.Grammar.{or_star, communicator_words, call_words, policy_word};
 ghost use Rattle.calltext.specs.parts.Verbs.{message_words, name_words, number_words, pattern_words, request_words};
-ghost use Rattle.calltext.specs.parts.Printed.{rank_text};
+ghost use Rattle.calltext.specs.parts.Body.{rank_text};
 
 use crate::call::{CallLine, Policy};
 use crate::name::{Name, Names};

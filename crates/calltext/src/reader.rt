@@ -2,10 +2,9 @@
 
 ghost use Rattle.std.specs.Prelude.{◌≡◌, IfOk, IfErr};
 ghost use Rattle.calltext.specs.Readable.{IsText};
-ghost use Rattle.calltext.specs.Grammar.{IsTextWithin};
+ghost use Rattle.calltext.specs.Grammar.{IsTextWithin, long};
 ghost use Rattle.calltext.specs.Fault.{HasFault, HasFaultWithin};
 ghost use Rattle.calltext.specs.WiderLimits.{AreLimits};
-ghost use Rattle.calltext.specs.Limits.{long};
 ghost use Rattle.calltext.specs.AtLine.{at_line};
 
 use crate::body::ranks_from;

@@ -2,7 +2,6 @@
 
 ghost use Rattle.std.specs.Prelude.{◌≡◌, ◌<◌, length, map, slice_get, Some};
 ghost use Rattle.calltext.specs.Readable.{IsReadable, IsReadableWithin};
-ghost use Rattle.calltext.specs.Limits.{long};
 ghost use Rattle.calltext.specs.Body.{views};
 
 use crate::call::{CallLine, Policy};
@@ -20,8 +19,7 @@ pub struct LongSource {
 impl Model for LongSource {
     ghost use Rattle.std.specs.Prelude.{map};
     ghost use Rattle.calltext.specs.Readable.{IsReadableWithin};
-    ghost use Rattle.calltext.specs.Grammar.{ProgramText};
-    ghost use Rattle.calltext.specs.Limits.{long};
+    ghost use Rattle.calltext.specs.Grammar.{ProgramText, long};
 
     ghost Value = { ProgramText };
 

@@ -7,7 +7,7 @@ use Rattle.std.proofs.lemmas.Option.{same_Some, slice_get_within}
 use Rattle.std.proofs.lemmas.List.Elements.{All-nil, All-push, All-weaker}
 use Rattle.std.proofs.lemmas.List.{get_or-replicate, get_or_past, length-replicate, map-append}
 use Rattle.std.proofs.lemmas.List.Quantifiers.{all_pairs_push}
-use Rattle.calltext.specs.Limits.{long}
+use Rattle.calltext.specs.Grammar.{long}
 use Rattle.callorder.specs.declared.calls.Call.{Call}
 use Rattle.callorder.specs.ProgramRules.{IsProgramWithin}
 use Rattle.callorder.specs.Programs.{MpiProgram, call_at, is_of_rank, are_of_one_rank, have_one_rank}

@@ -9,9 +9,23 @@ use Rattle.semantics.specs.declared.state.Step.{Step}
 use Rattle.semantics.specs.Machine.{Configuration, opening, after_all, is_rank_finished}
 use Rattle.scene.specs.declared.acts.Act.{Act}
 use Rattle.scene.specs.declared.acts.Act.TheVariants.{Issue, Match, See}
-use Rattle.scene.specs.Acts.{acts_from}
-use Rattle.scene.specs.Labels.{Label, call_labels, shortened}
-use Rattle.charts.specs.Cuts.{undrawn, undrawn_line}
+use Rattle.scene.specs.Labels.{Label, call_labels, shortened, acts_from}
+use Rattle.scene.specs.Ends.{is_large}
+
+-- How many of so many steps come before the drawn ones: of a run of a large program the last 400
+-- are drawn, else all.
+abbrev pub undrawn : MpiProgram → ℕ → ℕ
+undrawn p steps = if is_large p then steps - 400 else 0
+
+-- how many steps come before the drawn ones, where some do
+abbrev pub undrawn_words : ℕ → List ℕ
+undrawn_words count = numeral count ++ codes " steps before"
+
+abbrev pub undrawn_line : ℕ → List ℕ
+undrawn_line count = if count == 0 then [] else undrawn_words count ++ codes "\n"
+
+abbrev pub undrawn_text : ℕ → List ℕ
+undrawn_text count = if count == 0 then [] else codes "<text x=\"10\" y=\"46\" fill=\"#888\">" ++ (undrawn_words count ++ codes "</text>\n")
 
 -- ---- columns
 

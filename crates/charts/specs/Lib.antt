@@ -1,5 +1,4 @@
 pub mod Lining
-pub mod Cuts
 pub mod Chart
 pub mod Columns
 pub mod Picture

@@ -8,8 +8,7 @@ use Rattle.semantics.specs.declared.state.Step.{Step}
 use Rattle.semantics.specs.Machine.{opening}
 use Rattle.scene.specs.declared.acts.Act.{Act}
 use Rattle.scene.specs.declared.acts.Act.TheVariants.{Issue, Match, See}
-use Rattle.scene.specs.Acts.{acts_from}
-use Rattle.scene.specs.Labels.{Label, call_labels}
+use Rattle.scene.specs.Labels.{Label, call_labels, acts_from}
 
 -- `rank R line L`
 abbrev pub told_place : Label → List ℕ

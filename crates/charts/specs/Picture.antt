@@ -19,13 +19,11 @@ use Rattle.waits.specs.Cycles.{HasEdge}
 use Rattle.waits.specs.Waiting.{WaitsFor}
 use Rattle.scene.specs.declared.acts.Act.{Act}
 use Rattle.scene.specs.declared.acts.Act.TheVariants.{Issue, Match, See}
-use Rattle.scene.specs.Acts.{acts_from}
 use Rattle.scene.specs.Ends.{IsCycleOrNone}
-use Rattle.scene.specs.Labels.{Label, call_labels, shortened}
+use Rattle.scene.specs.Labels.{Label, call_labels, shortened, acts_from}
 use Rattle.charts.specs.declared.placing.PlacedAct.{PlacedAct}
-use Rattle.charts.specs.Chart.{columns}
+use Rattle.charts.specs.Chart.{columns, undrawn, undrawn_text}
 use Rattle.charts.specs.Columns.{AreColumns, column_of}
-use Rattle.charts.specs.Cuts.{undrawn, undrawn_text}
 
 -- ---- places and words
 

@@ -1,7 +1,7 @@
 //! Which steps of a run are drawn.
 
 ghost use Rattle.std.specs.Prelude.{◌≡◌, ◌≤◌, ◌++◌, OnOk, length, drop};
-ghost use Rattle.charts.specs.Cuts.{undrawn, undrawn_line, undrawn_text, undrawn_words};
+ghost use Rattle.charts.specs.Chart.{undrawn, undrawn_line, undrawn_text, undrawn_words};
 
 use callorder::LongProgram;
 use scene::{Act, is_large};

@@ -4,7 +4,7 @@ use Rattle.callorder.specs.ProgramRules.{IsProgram}
 use Rattle.callorder.specs.Programs.{MpiProgram}
 use Rattle.callorder.specs.Resolving.{IsTextOf}
 use Rattle.callorder.proofs.FirstFaults.{one_program_of_bytes}
-use Rattle.calltext.specs.Limits.{short}
+use Rattle.calltext.specs.Grammar.{short}
 use Rattle.callorder.proofs.ProgramsMade.{expansion_is_program}
 use Rattle.formula.specs.Numbering.{formula_of}
 use Rattle.semantics.specs.Machine.{IsStuckRun}

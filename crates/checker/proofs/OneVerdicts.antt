@@ -15,7 +15,7 @@ use Rattle.callorder.proofs.FirstFaults.{one_first_fault, one_program_of_bytes, 
 use Rattle.semantics.specs.declared.state.Step.{Step}
 use Rattle.semantics.specs.declared.schedule.End.{End}
 use Rattle.semantics.specs.declared.schedule.End.TheVariants as ends
-use Rattle.semantics.specs.Replays.{Replays}
+use Rattle.semantics.specs.RunEnds.{Replays}
 use Rattle.semantics.proofs.Runs.{one_replay}
 use Rattle.prooflog.specs.declared.evidence.Evidence.{Evidence}
 use Rattle.prooflog.specs.declared.evidence.Evidence.TheVariants.{Schedule, Refutation}

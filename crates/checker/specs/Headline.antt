@@ -3,7 +3,7 @@ use Rattle.std.specs.Prelude.{ℕ, List}
 use Rattle.callorder.specs.Programs.{MpiProgram}
 use Rattle.callorder.specs.Resolving.{IsTextOf}
 use Rattle.semantics.specs.declared.state.Step.{Step}
-use Rattle.calltext.specs.Limits.{short}
+use Rattle.calltext.specs.Grammar.{short}
 use Rattle.semantics.specs.Headline.{IsNeverStuckWithin}
 use Rattle.semantics.specs.Machine.{IsStuckRun}
 use Rattle.prooflog.specs.Steps.{IsScheduleText}

@@ -3,11 +3,10 @@ use Rattle.std.proofs.Common.{◌≡◌, ℕ, ◌+◌, ◌-◌, ◌≤◌, List,
 use Rattle.std.proofs.Math.Seq.{take-append_seam}
 use Rattle.std.proofs.lemmas.Grind.{flat_map-append}
 use Rattle.std.proofs.lemmas.List.Concat.{flat_map-cons}
-use Rattle.plaintext.specs.TextLines.{text_lines}
+use Rattle.plaintext.specs.Plain.{text_lines}
 use Rattle.plaintext.proofs.Texts.{joined-lines}
 use Rattle.choices.specs.parts.Pins.{AreAround, IsPastLines}
-use Rattle.choices.specs.Pins.{IsPinned, concatenated_lines}
-use Rattle.choices.specs.Words.{line_with}
+use Rattle.choices.specs.Pins.{IsPinned, concatenated_lines, line_with}
 use Rattle.narrowing.specs.declared.taken.ChoiceTaken.{ChoiceTaken}
 
 -- past one more line

@@ -1,7 +1,7 @@
 -- Words that are told one after another.
 use Rattle.std.proofs.Common.{◌≡◌, ◌∙◌, ◌<◌, ap, sym, ℕ, ◌+◌, List, [], ◌∷◌, ◌++◌, length, map, take, get_or, append_assoc, append-nil, arith}
 use Rattle.std.proofs.lemmas.List.{get_or-map, length-map, length-take-le, take_more}
-use Rattle.choices.specs.Words.{blank_before, told_word, told_words_from}
+use Rattle.choices.specs.Pins.{blank_before, told_word, told_words_from}
 
 pub told_more : (source tag at place : ℕ) (words : List (List ℕ)) (word : List ℕ)
     → told_words_from source tag at place (words ++ word ∷ []) ≡ told_words_from source tag at place words ++ (blank_before (place + length words) ++ told_word source tag at (place + length words) word)

@@ -1,4 +1,3 @@
 pub mod Pins
 pub mod Weights
-pub mod Words
 pub mod parts

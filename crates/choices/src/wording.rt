@@ -2,7 +2,7 @@
 
 ghost use Rattle.std.specs.List.{slice_split};
 ghost use Rattle.std.specs.Prelude.{◌≡◌, ◌++◌, ◌==◌, IfOk, OnOk, codes, map};
-ghost use Rattle.choices.specs.Words.{blank_before, communicator_ending, four_lines, front_letters, is_joined, are_same_bytes, letter_line, line_with, message_line, mode_line, part_ending, source_place, spaced_word, told_word, told_words_from};
+ghost use Rattle.choices.specs.Pins.{blank_before, communicator_ending, four_lines, front_letters, is_joined, are_same_bytes, letter_line, line_with, message_line, mode_line, part_ending, source_place, spaced_word, told_word, told_words_from};
 
 use narrowing::ChoiceTaken;
 use plaintext::{put_number, words_of};

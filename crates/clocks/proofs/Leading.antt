@@ -11,7 +11,7 @@ use Rattle.callorder.specs.Programs.{MpiProgram, call_at, are_of_one_rank}
 use Rattle.semantics.specs.Machine.{Configuration}
 use Rattle.races.specs.Tells.{tells_done, tells_done_call, tells_done_kind, tells_return_call, tells_issue}
 use Rattle.clocks.specs.declared.reads.DoneOperation.{DoneOperation}
-use Rattle.clocks.specs.parts.Reads.{Leads, tells_sent, tells_found, tells_read}
+use Rattle.clocks.specs.parts.Clocks.{Leads, tells_sent, tells_found, tells_read}
 use Rattle.knowledge.proofs.Less.{or_both}
 
 sent_kind_leads : (p : MpiProgram) (e : Configuration) (c : ℕ) (mode : Mode) (blocking : Bool) (message : Message) → Leads (λ knows f. tells_sent p e knows c mode f) (λ knows f. tells_done_kind p e knows c (Send mode blocking message) f)

@@ -3,7 +3,7 @@ use Rattle.std.proofs.Common.{◌≡◌, ℕ, zero, suc, ◌+◌, ◌<◌, ◌�
 use Rattle.std.proofs.lemmas.Bool.{cases_lt}
 use Rattle.std.proofs.lemmas.Option.{slice_get_within}
 use Rattle.calltext.proofs.Conjunctions.{and_both}
-use Rattle.calltext.specs.Limits.{long}
+use Rattle.calltext.specs.Grammar.{long}
 use Rattle.callorder.specs.declared.calls.Call.{Call}
 use Rattle.callorder.specs.ProgramRules.{IsProgramWithin}
 use Rattle.callorder.specs.Programs.{MpiProgram, call_at, are_fit, are_of_one_rank}

@@ -3,7 +3,7 @@ use Rattle.std.proofs.Common.{zero, suc, ap, ◌∙◌, IfSome, [], ◌∷◌, �
 use Rattle.std.proofs.lemmas.Option.{slice_get-get_or, slice_get_within}
 use Rattle.semantics.proofs.Runs.{IsRun-at}
 use Rattle.std.proofs.lemmas.Bool.{cases_lt, eq-eqb, lt-ltb}
-use Rattle.calltext.specs.Limits.{long}
+use Rattle.calltext.specs.Grammar.{long}
 use Rattle.callorder.specs.declared.calls.Call.{Call}
 use Rattle.callorder.specs.ProgramRules.{IsProgramWithin}
 use Rattle.callorder.specs.Programs.{are_of_one_rank, is_of_rank, MpiProgram, are_fit, call_at}

@@ -1,4 +1,3 @@
 pub mod Clocks
 pub mod Exact
 pub mod Finders
-pub mod Reads

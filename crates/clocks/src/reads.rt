@@ -5,7 +5,7 @@ ghost use Rattle.callorder.specs.Programs.{call_at};
 ghost use Rattle.semantics.specs.Machine.{Configuration, partner_of};
 ghost use Rattle.races.specs.Tells.{knows_at, tells_find, tells_receive, tells_fetch, tells_done, tells_return_call, tells_issue};
 ghost use Rattle.knowledge.specs.Knowledge.{with_partners};
-ghost use Rattle.clocks.specs.parts.Reads.{Leads, tells_sent, tells_found, tells_read};
+ghost use Rattle.clocks.specs.parts.Clocks.{Leads, tells_sent, tells_found, tells_read};
 
 use callorder::{Kind, LongProgram, Policy};
 use calltext::Mode;

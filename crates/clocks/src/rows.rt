@@ -4,9 +4,8 @@
 ghost use Rattle.std.specs.Prelude.{◌≡◌, ℕ, Bool, IsTrue, IfOk, OnOk, Option, Some, slice_get};
 ghost use Rattle.semantics.specs.Machine.{Configuration, partner_of};
 ghost use Rattle.races.specs.Tells.{Table, knows_at, tells_find};
-ghost use Rattle.clocks.specs.parts.Clocks.{Numbering, IsJoin, AddsToRow, AreRows, AreTold, AreSound, AreToldSoundly, IsCount, IsRow, level};
+ghost use Rattle.clocks.specs.parts.Clocks.{Numbering, IsJoin, AddsToRow, AreRows, AreTold, AreSound, AreToldSoundly, IsCount, IsRow, level, tells_find_at, tells_read};
 ghost use Rattle.knowledge.specs.Knowledge.{with_partners};
-ghost use Rattle.clocks.specs.parts.Reads.{tells_find_at, tells_read};
 
 use crate::columns::Columns;
 use crate::reads::{Read, found_send, is_last_read, partner, read_for, reads_of};

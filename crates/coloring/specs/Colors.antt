@@ -1,7 +1,7 @@
 -- Answers in color, on a terminal.
-use Rattle.std.specs.Prelude.{◌≡◌, ◌==◌, ◌||◌, ℕ, Bool, if◌then◌else◌, List, [], ◌∷◌, ◌++◌, codes, Option, Some, None}
+use Rattle.std.specs.Prelude.{◌==◌, ◌||◌, ℕ, Bool, if◌then◌else◌, List, ◌∷◌, ◌++◌, codes, Option, Some, None}
 use Rattle.std.specs.List.{flat_map, starts_with}
-use Rattle.plaintext.specs.TextLines.{text_lines}
+use Rattle.plaintext.specs.Plain.{text_lines}
 
 -- the line begins with these words
 abbrev pub line_begins_with : List ℕ → List ℕ → Bool

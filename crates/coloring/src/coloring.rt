@@ -1,7 +1,7 @@
 //! Lines in color.
 
 ghost use Rattle.std.specs.Prelude.{◌≡◌, ◌++◌, IfNone, IfOk, IfSome, OnOk, [], ◌<◌, ◌∷◌, length, option_map, Some};
-ghost use Rattle.plaintext.specs.TextLines.{text_lines};
+ghost use Rattle.plaintext.specs.Plain.{text_lines};
 ghost use Rattle.coloring.specs.Colors.{color_of, colored, colored_line, painted};
 
 use plaintext::next_line;

@@ -10,9 +10,8 @@ use Rattle.formula.specs.Numbering.{formula_of}
 use Rattle.std.proofs.lemmas.List.{length-append, take_min, map_more}
 use Rattle.encode.specs.Encodings.{EncodedProgram}
 use Rattle.trees.specs.Trees.{TreeState}
-use Rattle.cubes.specs.Cubes.{IsCubeTree}
+use Rattle.cubes.specs.Cubes.{IsCubeTree, IsBranchingOrder, AreBranchingVariables, match_variable}
 use Rattle.cubes.specs.Levels.{full_tree}
-use Rattle.cubes.specs.Order.{IsBranchingOrder, AreBranchingVariables, match_variable}
 use Rattle.cubes.proofs.MatchVariables.{match_variables_within}
 
 -- one match variable more

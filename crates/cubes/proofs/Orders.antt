@@ -12,7 +12,7 @@ use Rattle.std.proofs.lemmas.List.FromFn.{length-range_with_len, map-range_with_
 use Rattle.std.proofs.lemmas.List.Sorted.{sorted_far, All-permutation, IsPermutation-map, IsPermutation-sym, IsPermutation-trans, sum_by-IsPermutation}
 use Rattle.std.proofs.lemmas.List.Sums.{sum_by-cons}
 use Rattle.candidates.specs.Pairs.{pair_at, with_taker}
-use Rattle.cubes.specs.Order.{choices, branches_before, branching_rank_of, IsBranchingOrder}
+use Rattle.cubes.specs.Cubes.{choices, branches_before, branching_rank_of, IsBranchingOrder}
 use Rattle.cubes.specs.Laws.{OneBranchingOrder}
 
 -- ---- what comes first

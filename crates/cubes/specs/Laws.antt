@@ -3,7 +3,7 @@ use Rattle.std.specs.Prelude.{◌≡◌, ℕ, ◌+◌, ◌^◌, ◌<◌, ◌≤�
 use Rattle.callorder.specs.Programs.{MpiProgram}
 use Rattle.candidates.specs.Pairs.{pairs_of}
 use Rattle.formula.specs.Numbering.{formula_of}
-use Rattle.cubes.specs.Order.{IsBranchingOrder, match_variable}
+use Rattle.cubes.specs.Cubes.{IsBranchingOrder, match_variable}
 use Rattle.cubes.specs.Levels.{full_tree}
 
 -- no two branching orders are of as many pairs of one list

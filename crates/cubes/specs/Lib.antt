@@ -1,4 +1,3 @@
 pub mod Cubes
 pub mod Laws
 pub mod Levels
-pub mod Order

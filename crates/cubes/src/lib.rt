@@ -1,7 +1,7 @@
 //! Cubes of a program's formula: the full tree over the match variables of the pairs whose takers
 //! have most pairs.
 //!
-//! `specs/Order.antt` says which pairs come first, `specs/Levels.antt` which tree is full.
+//! `specs/Cubes.antt` says which pairs come first, `specs/Levels.antt` which tree is full.
 #![tactic(auto)]
 
 mod fault;

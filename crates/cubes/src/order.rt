@@ -2,7 +2,7 @@
 
 ghost use Rattle.std.specs.Prelude.{◌≡◌, ◌≤◌, IfOk, length, map};
 ghost use Rattle.std.specs.List.{range_with_len};
-ghost use Rattle.cubes.specs.Order.{branching_rank_of, IsBranchingOrder};
+ghost use Rattle.cubes.specs.Cubes.{branching_rank_of, IsBranchingOrder};
 
 use candidates::Pairs;
 use std::alloc::{AllocError, Global};

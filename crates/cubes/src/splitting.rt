@@ -5,8 +5,7 @@ ghost use Rattle.std.specs.List.{All, filter};
 ghost use Rattle.callorder.specs.Programs.{is_probe};
 ghost use Rattle.candidates.specs.Pairs.{matching_pairs, pairs_of};
 ghost use Rattle.formula.specs.Numbering.{formula_of};
-ghost use Rattle.cubes.specs.Order.{match_variable, AreBranchingVariables, IsBranchingOrder};
-ghost use Rattle.cubes.specs.Cubes.{IsCubeTree};
+ghost use Rattle.cubes.specs.Cubes.{IsCubeTree, match_variable, AreBranchingVariables, IsBranchingOrder};
 
 use crate::fault::CubeFault;
 use crate::levels::full_tree;

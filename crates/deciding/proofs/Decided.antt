@@ -1,6 +1,6 @@
 -- From what is decided of a program to what is decided of its text.
 use Rattle.std.proofs.Common.{ℕ, List}
-use Rattle.calltext.specs.Limits.{long}
+use Rattle.calltext.specs.Grammar.{long}
 use Rattle.callorder.specs.Programs.{MpiProgram}
 use Rattle.callorder.specs.Resolving.{IsTextOfWithin}
 use Rattle.deciding.specs.declared.decision.Decision.{Decision}

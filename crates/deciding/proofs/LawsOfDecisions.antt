@@ -1,6 +1,6 @@
 -- What holds of each decision.
 use Rattle.std.proofs.Common.{◌≡◌, ℕ, Bool, true, false, not, List, Option, Some, None, refl, subst, arith}
-use Rattle.calltext.specs.Limits.{long, short}
+use Rattle.calltext.specs.Grammar.{long, short}
 use Rattle.callorder.specs.Calls.{pattern_of}
 use Rattle.callorder.specs.Programs.{MpiProgram, call_at}
 use Rattle.callorder.specs.Resolving.{IsTextOf, IsTextOfWithin}

@@ -8,7 +8,7 @@ use Rattle.semantics.specs.declared.state.Step.{Step}
 use Rattle.prooflog.specs.declared.refutation.Version.TheVariants.{One}
 use Rattle.prooflog.specs.Steps.{written, step_line, schedule_line}
 use Rattle.prooflog.specs.Grammar.{heading_line}
-use Rattle.deciding.specs.Schedules.{schedule_text}
+use Rattle.deciding.specs.Decisions.{schedule_text}
 
 pub text_written : (steps : List Step) (out : List ℕ) → out ≡ (codes "evidence 1" ++ 10 ∷ codes "schedule" ++ 10 ∷ []) ++ flat_map step_line (map written steps) → out ≡ schedule_text steps
 text_written steps out e =

@@ -1,10 +1,10 @@
--- What one run tells of all runs of a program, and of the program of a text.
-use Rattle.std.specs.Prelude.{◌≡◌, ◌≤◌, ℕ, Bool, false, not, List, Option, Some, None, IsTrue, Result, Ok, Err}
+-- What one run tells of all runs of a program, and of the program of a text; and the text of a
+-- schedule of any length.
+use Rattle.std.specs.Prelude.{◌≡◌, ◌≤◌, ℕ, Bool, false, not, List, Option, Some, None, IsTrue, Result, Ok, Err, map}
 use Rattle.calltext.specs.declared.fault.ReadFault.{ReadFault}
 use Rattle.calltext.specs.declared.fault.ReadFault.TheVariants as reading
 use Rattle.calltext.specs.Fault.{HasFaultWithin}
-use Rattle.calltext.specs.Grammar.{ProgramText, IsTextWithin}
-use Rattle.calltext.specs.Limits.{long}
+use Rattle.calltext.specs.Grammar.{ProgramText, IsTextWithin, long}
 use Rattle.callorder.specs.Calls.{pattern_of}
 use Rattle.callorder.specs.Programs.{MpiProgram, are_fit, are_of_one_rank, call_at, is_of_rank}
 use Rattle.callorder.specs.FirstFaults.{IsFirstFaultWithin}
@@ -24,6 +24,11 @@ use Rattle.deciding.specs.declared.decision.CallerRace.{CallerRace}
 use Rattle.deciding.specs.declared.decision.Decision.TheVariants as decisions
 use Rattle.deciding.specs.declared.texts.Undecided.{Undecided}
 use Rattle.deciding.specs.declared.texts.Undecided.TheVariants as undecided
+use Rattle.std.specs.List.{flat_map}
+use Rattle.prooflog.specs.Grammar.{as_schedule, written_lines}
+use Rattle.prooflog.specs.Steps.{written}
+use Rattle.prooflog.specs.declared.step.WrittenStep.{WrittenStep}
+use Rattle.prooflog.specs.declared.step.WrittenStep.TheVariants.{Issue}
 
 abbrev pub takes_any_source_call : Option Call → Bool
 takes_any_source_call None = false
@@ -104,3 +109,12 @@ IsUndecided program (undecided.Resolve fault) = (text : ProgramText) × IsTextWi
 abbrev pub IsDecided : List ℕ → Result Decision Undecided → Type 0
 IsDecided program (Ok decision) = Decides program decision
 IsDecided program (Err why) = IsUndecided program why
+
+-- The lines of the steps below the two headings of a schedule's text. Within the limits of a
+-- schedule this is the text of an evidence.
+abbrev pub schedule_text : List Step → List ℕ
+schedule_text steps = flat_map (λ line. line) (written_lines (as_schedule (map written steps)))
+
+-- a rank's issue of its next call, as it is written
+abbrev pub issue_step : ℕ → Bool → WrittenStep
+issue_step rank buffered = Issue rank buffered

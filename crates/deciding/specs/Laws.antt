@@ -1,6 +1,6 @@
 -- What holds of each decision.
 use Rattle.std.specs.Prelude.{ℕ, IsTrue, List}
-use Rattle.calltext.specs.Limits.{long, short}
+use Rattle.calltext.specs.Grammar.{long, short}
 use Rattle.callorder.specs.Programs.{MpiProgram, are_fit, are_of_one_rank}
 use Rattle.callorder.specs.Resolving.{IsTextOf, IsTextOfWithin}
 use Rattle.semantics.specs.declared.state.Step.{Step}

@@ -1,4 +1,3 @@
 pub mod Decisions
-pub mod Schedules
 pub mod Laws
 pub mod Stages

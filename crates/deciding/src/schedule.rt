@@ -5,7 +5,7 @@ ghost use Rattle.std.specs.List.{flat_map};
 ghost use Rattle.plaintext.specs.Plain.{numeral};
 ghost use Rattle.prooflog.specs.Reading.{written_find_step};
 ghost use Rattle.prooflog.specs.Steps.{step_line, written};
-ghost use Rattle.deciding.specs.Schedules.{issue_step, schedule_text};
+ghost use Rattle.deciding.specs.Decisions.{issue_step, schedule_text};
 
 use prooflog::find_word;
 use semantics::Step;

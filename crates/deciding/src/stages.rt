@@ -2,7 +2,7 @@
 
 ghost use Rattle.std.specs.Prelude.{◌≡◌, ◌⊎◌, IfErr, IfOk, IsTrue};
 ghost use Rattle.std.specs.Io.KnownBytes.{Appends};
-ghost use Rattle.calltext.specs.Limits.{long};
+ghost use Rattle.calltext.specs.Grammar.{long};
 ghost use Rattle.callorder.specs.Resolving.{IsTextOfWithin};
 ghost use Rattle.semantics.specs.Machine.{after_all, opening};
 ghost use Rattle.leastrun.specs.LeastBuffered.{IsLeastBufferedRun};

@@ -1,7 +1,7 @@
 //! From the text of a program to what is decided of it.
 
 ghost use Rattle.std.specs.Prelude.{◌≡◌, IfErr, IfOk};
-ghost use Rattle.calltext.specs.Limits.{long};
+ghost use Rattle.calltext.specs.Grammar.{long};
 ghost use Rattle.callorder.specs.Resolving.{IsTextOfWithin};
 ghost use Rattle.deciding.specs.Decisions.{IsDecided, IsUndecided, undecided_reading, undecided_resolving};
 

@@ -8,9 +8,8 @@ use Rattle.semantics.specs.Machine.{Configuration, after_all, opening}
 use Rattle.waits.specs.declared.standings.Standing.{Standing}
 use Rattle.waits.specs.declared.standings.Standing.TheVariants.{Waits}
 use Rattle.waits.specs.Waiting.{WaitsFor, operation_of_call}
-use Rattle.scene.specs.Ends.{AreStandings}
+use Rattle.scene.specs.Ends.{AreStandings, IsNeeded}
 use Rattle.scene.specs.Labels.{Label, call_labels}
-use Rattle.scene.specs.Needs.{IsNeeded}
 
 -- that a rank waits in a call
 abbrev pub wait_words : Label → ℕ → List ℕ

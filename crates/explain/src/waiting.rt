@@ -6,7 +6,7 @@ ghost use Rattle.waits.specs.declared.standings.Standing.{Standing};
 ghost use Rattle.waits.specs.Cycles.{HasEdge, awaited_by};
 ghost use Rattle.waits.specs.Waiting.{WaitsFor, operation_of_call};
 ghost use Rattle.scene.specs.Labels.{Label};
-ghost use Rattle.scene.specs.Needs.{IsNeeded};
+ghost use Rattle.scene.specs.Ends.{IsNeeded};
 ghost use Rattle.explain.specs.Messages.{AreNotices, IsLabelled, IsMessage, IsMessages, IsNotice, NamesNeeded, need_words, wait_words};
 
 use callorder::LongProgram;

@@ -3,8 +3,7 @@ use Rattle.std.proofs.Common.{◌≡◌, refl, ℕ, ◌+◌, ◌<◌, suc, List,
 use Rattle.std.specs.Prelude.{codes}
 use Rattle.std.proofs.lemmas.List.{append-nil, length-take, take_more}
 use Rattle.std.specs.Prelude.{get_or}
-use Rattle.plaintext.specs.TextLines.{spaced}
-use Rattle.plaintext.specs.Plain.{numeral}
+use Rattle.plaintext.specs.Plain.{numeral, spaced}
 use Rattle.prooflog.specs.Refutations.{literal_word}
 use Rattle.refutations.specs.Proofs.{ProofLine}
 use Rattle.exports.specs.Lrat.{lrat_line, lrat_text}

@@ -6,8 +6,7 @@ use Rattle.std.proofs.lemmas.List.{append-nil, length-take, take_more}
 use Rattle.std.proofs.lemmas.List.Concat.{flat_map-cons}
 use Rattle.std.proofs.lemmas.Option.{get_or_from_slice_get, slice_get_within}
 use Rattle.callorder.specs.Programs.{MpiProgram}
-use Rattle.plaintext.specs.TextLines.{spaced}
-use Rattle.plaintext.specs.Plain.{line_of}
+use Rattle.plaintext.specs.Plain.{line_of, spaced}
 use Rattle.plaintext.proofs.Spaced.{spaced-append, spaced-join}
 use Rattle.clauses.specs.Clauses.{Literal}
 use Rattle.formula.specs.declared.facts.Meaning.{Meaning}

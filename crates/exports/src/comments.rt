@@ -2,8 +2,7 @@
 
 ghost use Rattle.std.specs.Prelude.{◌≡◌, ◌+◌, ◌++◌, ◌∷◌, [], codes, get_or, OnOk};
 ghost use Rattle.callorder.specs.Programs.{is_probe};
-ghost use Rattle.plaintext.specs.TextLines.{spaced};
-ghost use Rattle.plaintext.specs.Plain.{numeral};
+ghost use Rattle.plaintext.specs.Plain.{numeral, spaced};
 ghost use Rattle.formula.specs.declared.facts.RunEvent.TheVariants.{Issue as issue_of};
 ghost use Rattle.formula.specs.Families.{events as events_of};
 ghost use Rattle.formula.specs.Numbering.{meanings};

@@ -1,8 +1,7 @@
 //! Words of a line, with a space before each.
 
 ghost use Rattle.std.specs.Prelude.{◌≡◌, ◌++◌, ◌∷◌, [], OnOk};
-ghost use Rattle.plaintext.specs.TextLines.{spaced};
-ghost use Rattle.plaintext.specs.Plain.{numeral};
+ghost use Rattle.plaintext.specs.Plain.{numeral, spaced};
 
 use std::alloc::AllocError;
 

@@ -1,6 +1,6 @@
 -- What the formula of a program speaks of: events of a run, facts about its end, and literals over
 -- both. Calls are named by their places in the program, from 0.
-use Rattle.std.specs.Prelude.{ℕ, Bool, false, ◌==◌}
+use Rattle.std.specs.Prelude.{Bool, false, ◌==◌}
 pub use Rattle.formula.specs.declared.facts.RunEvent.{RunEvent}
 pub use Rattle.formula.specs.declared.facts.RunEvent.TheVariants.{Issue as issue_of, Match as match_of}
 pub use Rattle.formula.specs.declared.facts.Fact.{Fact}

@@ -15,9 +15,8 @@ use Rattle.formula.specs.declared.families.Family.{Family}
 use Rattle.formula.specs.Families.{SymbolicClause, last_calls, is_standard, SymbolicBlocks, by_call, by_standard_send, by_last_call, by_pair, by_see, clauses_in, family_of, said, all_families}
 use Rattle.formula.specs.Orders.{places_in, stated_orders}
 use Rattle.formula_families.specs.declared.families.Block.{Block}
-use Rattle.formula_families.specs.parts.Blocks.{block, blocks_of}
+use Rattle.formula_families.specs.parts.Blocks.{block, blocks_of, orders_of, orders_of_family}
 use Rattle.formula_families.specs.Blocks.{where_taken, where_seen, where_last, block_in, count_in, clauses_of, size_of}
-use Rattle.formula_families.specs.parts.Marks.{orders_of, orders_of_family}
 
 -- ---- lists
 

@@ -11,7 +11,7 @@ use Rattle.std.proofs.lemmas.List.Folds.{list_any-append}
 use Rattle.std.proofs.lemmas.Nat.{mul-add-lt}
 use Rattle.formula.specs.Orders.{are_of_same_events, is_among}
 use Rattle.formula_tables.proofs.Apart.{first_told, second_told, both_equal, not_both}
-use Rattle.formula_families.specs.parts.Marks.{AreMarks}
+use Rattle.formula_families.specs.parts.Blocks.{AreMarks}
 
 or_false : (b c d : Bool) → c ≡ false → d ≡ false → b ≡ (b || ((c || d) || false))
 or_false true false false h k = refl

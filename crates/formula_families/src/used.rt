@@ -5,7 +5,7 @@ ghost use Rattle.std.specs.List.{filter, flat_map};
 ghost use Rattle.formula.specs.declared.facts.Statement.{Statement};
 ghost use Rattle.formula.specs.Families.{events as events_of};
 ghost use Rattle.formula.specs.Orders.{between, event_pairs, is_among, places_in, used_pairs};
-ghost use Rattle.formula_families.specs.parts.Marks.{AreMarks, orders_of, orders_of_family};
+ghost use Rattle.formula_families.specs.parts.Blocks.{AreMarks, orders_of, orders_of_family};
 
 use crate::families::{Block, first_families, last_families, put_block, size_of, states_order};
 use crate::symbolic::Symbolic;

@@ -14,7 +14,7 @@ use Rattle.formula.specs.Families.{events, place_of_event, finds_message}
 use Rattle.formula.proofs.Elements.{Each, each_append, each_map, each_filter, each_range, each_mono, all_from_each}
 use Rattle.formula.proofs.Numbers.{position_map}
 use Rattle.formula_tables.specs.Places.{first_place}
-use Rattle.formula_tables.specs.Slots.{event_slot, event_slots}
+use Rattle.formula_tables.specs.Numbers.{event_slot, event_slots}
 
 -- ---- lists
 

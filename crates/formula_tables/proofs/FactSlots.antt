@@ -17,7 +17,7 @@ use Rattle.formula.specs.Numbering.{facts, is_same_fact}
 use Rattle.formula.proofs.Elements.{Each, each_append, each_map, each_flat_map, each_filter, each_range, each_from, each_mono, all_from_each}
 use Rattle.formula.proofs.Used.{is_pair, each_used}
 use Rattle.formula_tables.specs.Places.{first_place}
-use Rattle.formula_tables.specs.Slots.{pair_slot, fact_slot}
+use Rattle.formula_tables.specs.Numbers.{pair_slot, fact_slot}
 use Rattle.formula_tables.proofs.EventSlots.{place_by_number}
 use Rattle.formula_tables.proofs.Apart.{first_told, second_told, unequal, not_both, both_equal}
 

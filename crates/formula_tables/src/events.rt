@@ -4,7 +4,7 @@ ghost use Rattle.std.specs.Prelude.{◌≡◌, ◌<◌, ◌≤◌, ◌^◌, ◌+
 ghost use Rattle.std.specs.List.{filter, range_with_len};
 ghost use Rattle.candidates.specs.Pairs.{places};
 ghost use Rattle.formula.specs.Families.{events, place_of_event, finds_message};
-ghost use Rattle.formula_tables.specs.Slots.{event_slot, event_slots};
+ghost use Rattle.formula_tables.specs.Numbers.{event_slot, event_slots};
 
 use crate::calls;
 use crate::places::FirstPlaces;
@@ -24,7 +24,7 @@ pub struct Events<'a> {
 impl<'a> Model for Events<'a> {
     ghost use Rattle.std.specs.Prelude.{◌≡◌};
     ghost use Rattle.callorder.specs.Programs.{MpiProgram};
-    ghost use Rattle.formula_tables.specs.Slots.{event_slots};
+    ghost use Rattle.formula_tables.specs.Numbers.{event_slots};
 
     ghost Value = { MpiProgram };
 

@@ -24,7 +24,7 @@ pub struct ProgramTables<'a> {
 impl<'a> Model for ProgramTables<'a> {
     ghost use Rattle.std.specs.Prelude.{map};
     ghost use Rattle.callorder.specs.Programs.{MpiProgram};
-    ghost use Rattle.formula_tables.specs.Sources.{AreCalls};
+    ghost use Rattle.formula_tables.specs.Numbers.{AreCalls};
 
     ghost Value = { MpiProgram };
 

@@ -6,8 +6,7 @@ ghost use Rattle.formula.specs.declared.facts.Meaning.TheVariants.{OfFact as fac
 ghost use Rattle.formula.specs.Families.{events as events_of, place_of_event};
 ghost use Rattle.formula.specs.Orders.{clock_size, used_pairs, place_of_pair};
 ghost use Rattle.formula.specs.Numbering.{facts as facts_of, meanings, is_same_fact, is_same_meaning, variable_of, literal, literal_of, earlier_literal};
-ghost use Rattle.formula_tables.specs.Slots.{pair_slot, fact_slot};
-ghost use Rattle.formula_tables.specs.Numbers.{IsSmall};
+ghost use Rattle.formula_tables.specs.Numbers.{IsSmall, pair_slot, fact_slot};
 
 use crate::events::Events;
 use crate::places::FirstPlaces;

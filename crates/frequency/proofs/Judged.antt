@@ -1,6 +1,6 @@
 -- What a run that buffers all it may tells of all runs.
 use Rattle.std.proofs.Common.{◌≡◌, ℕ, ◌<◌, false, List, sym, subst}
-use Rattle.calltext.specs.Limits.{long}
+use Rattle.calltext.specs.Grammar.{long}
 use Rattle.callorder.specs.ProgramRules.{IsProgramWithin}
 use Rattle.callorder.specs.Programs.{MpiProgram}
 use Rattle.semantics.specs.declared.state.Step.{Step}

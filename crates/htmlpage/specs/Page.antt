@@ -8,7 +8,7 @@ use Rattle.callorder.specs.Programs.{MpiProgram}
 use Rattle.semantics.specs.declared.state.Step.{Step}
 use Rattle.semantics.specs.Machine.{Configuration, opening, after_all, is_rank_finished}
 use Rattle.scene.specs.Labels.{Label, call_labels}
-use Rattle.scene.specs.Sizes.{is_large}
+use Rattle.scene.specs.Ends.{is_large}
 use Rattle.charts.specs.Chart.{columns}
 use Rattle.charts.specs.Picture.{IsPicture, escape}
 

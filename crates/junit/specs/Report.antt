@@ -1,8 +1,7 @@
 -- A report of tests in JUnit's form.
 use Rattle.std.specs.Prelude.{◌≡◌, ◌==◌, ◌||◌, ◌-◌, ℕ, Bool, true, false, nat_lt, if◌then◌else◌, List, [], ◌∷◌, ◌++◌, codes, length, filter, take}
 use Rattle.std.specs.List.{flat_map}
-use Rattle.plaintext.specs.TextLines.{text_lines}
-use Rattle.plaintext.specs.Plain.{numeral}
+use Rattle.plaintext.specs.Plain.{numeral, text_lines}
 use Rattle.junit.specs.declared.report.TestOutcome.{TestOutcome}
 use Rattle.junit.specs.declared.report.TestOutcome.TheVariants.{Passed, Failed, Broken}
 use Rattle.junit.specs.declared.report.Report.{Report}

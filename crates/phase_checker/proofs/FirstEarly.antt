@@ -8,9 +8,8 @@ use Rattle.sealing.specs.declared.loose.Loose.{Loose}
 use Rattle.phase_checker.specs.declared.phase.Phase.{Phase}
 use Rattle.phase_checker.specs.declared.senders.Senders.{Senders}
 use Rattle.phase_checker.specs.Dealing.{IsAt, IsEarly}
-use Rattle.phase_checker.specs.parts.Early.{AreEmpty, AreLooseEnds, AreReachesOfLists, AreSenders, IsFirstWithin}
+use Rattle.phase_checker.specs.parts.Early.{AreEmpty, AreLooseEnds, AreReachesOfLists, AreSenders, IsFirstWithin, place_sent}
 use Rattle.phase_checker.specs.parts.Parts.{IsFirstEarly}
-use Rattle.phase_checker.specs.parts.Senders.{place_sent}
 use Rattle.phase_checker.proofs.Sent.{loose_is_sent, sent_is_loose}
 
 -- what stands in a list stands in each one that is there in its place

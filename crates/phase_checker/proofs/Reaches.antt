@@ -7,8 +7,7 @@ use Rattle.std.proofs.lemmas.List.{get_or_append_left}
 use Rattle.std.proofs.lemmas.Option.{same_Some, slice_get_read, slice_get_within}
 use Rattle.sealing.specs.declared.loose.Loose.{Loose}
 use Rattle.phase_checker.specs.declared.senders.Senders.{Senders}
-use Rattle.phase_checker.specs.parts.Early.{AreReachesOfLists, IsReachOfList}
-use Rattle.phase_checker.specs.parts.Senders.{place_sent}
+use Rattle.phase_checker.specs.parts.Early.{AreReachesOfLists, IsReachOfList, place_sent}
 
 -- the last place at which something of the list before this index is sent, or 0
 pub record IsReachTo (senders : Senders) (list : List Loose) (reach index : ℕ) : Type 0 where

@@ -13,8 +13,8 @@ use Rattle.callorder.specs.Calls.{message_of}
 use Rattle.callorder.specs.Programs.{MpiProgram}
 use Rattle.races.specs.Races.{names_source, NamesSources}
 use Rattle.sealing.specs.declared.loose.Loose.{Loose}
-use Rattle.sealing.specs.Loose.{AreLoose, IsLoose, IsLooseSend}
-use Rattle.phase_checker.specs.parts.Senders.{is_message_of, is_same, is_sent, key_of}
+use Rattle.sealing.specs.Sealing.{AreLoose, IsLoose, IsLooseSend}
+use Rattle.phase_checker.specs.parts.Early.{is_message_of, is_same, is_sent, key_of}
 
 -- ---- equal keys
 

@@ -7,11 +7,10 @@ use Rattle.std.proofs.lemmas.List.{get_or-take, length-take-le}
 use Rattle.std.proofs.lemmas.Option.{same_Some, slice_get_read, slice_get_within, slice_get-get_or, get_or_from_slice_get}
 use Rattle.interning.proofs.Numbering.{pushed_front, pushed_last}
 use Rattle.sealing.specs.declared.loose.Loose.{Loose}
-use Rattle.sealing.specs.Loose.{AreLoose}
+use Rattle.sealing.specs.Sealing.{AreLoose}
 use Rattle.phase_checker.specs.declared.phase.Phase.{Phase}
 use Rattle.phase_checker.specs.declared.senders.Senders.{Senders}
-use Rattle.phase_checker.specs.parts.Senders.{is_sent, place_sent, IsRaisedToPlace}
-use Rattle.phase_checker.specs.parts.Early.{AreLooseEnds, AreLast, AreSenders}
+use Rattle.phase_checker.specs.parts.Early.{AreLooseEnds, AreLast, AreSenders, is_sent, place_sent, IsRaisedToPlace}
 
 -- ---- last places
 

@@ -1,6 +1,6 @@
 -- From what is shown of a program to what is told of its text.
 use Rattle.std.proofs.Common.{◌≡◌, ◌⊎◌, ℕ, List, inl, inr}
-use Rattle.calltext.specs.Limits.{long}
+use Rattle.calltext.specs.Grammar.{long}
 use Rattle.callorder.specs.Programs.{MpiProgram}
 use Rattle.callorder.specs.Resolving.{IsTextOfWithin}
 use Rattle.phase_checker.specs.declared.phase.Phase.{Phase}

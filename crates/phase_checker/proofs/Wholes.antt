@@ -3,7 +3,7 @@ use Rattle.std.proofs.Common.{◌≡◌, ℕ, suc, ◌+◌, ◌<◌, inl, inr, L
 use Rattle.std.proofs.lemmas.Grind.{not_there}
 use Rattle.std.proofs.lemmas.List.{take_all}
 use Rattle.std.proofs.lemmas.Option.{same_Some}
-use Rattle.calltext.specs.Limits.{long, short}
+use Rattle.calltext.specs.Grammar.{long, short}
 use Rattle.callorder.specs.declared.calls.Call.{Call}
 use Rattle.callorder.specs.Calls.{message_of}
 use Rattle.callorder.specs.ProgramRules.{IsProgramWithin}
@@ -20,7 +20,7 @@ use Rattle.phases.proofs.Joined.{joined_is_cut}
 use Rattle.phases.proofs.Parts.{message_moved}
 use Rattle.phases.proofs.Rests.{empty_is_never_stuck, front_is_joined, last_phase}
 use Rattle.sealing.specs.declared.loose.Loose.{Loose}
-use Rattle.sealing.specs.Loose.{IsLooseSend}
+use Rattle.sealing.specs.Sealing.{IsLooseSend}
 use Rattle.sealing.proofs.Sealed.{one_sealed_phase_more}
 use Rattle.sealing.proofs.Seals.{no_loose_send_seals}
 use Rattle.checker.specs.Headline.{IsNeverStuck}

@@ -1,14 +1,14 @@
--- Dealing a program's calls to phases, in their order.
+-- Dealing a program's calls to phases, in their order, and what is left of it behind them.
 use Rattle.std.specs.Prelude.{◌≡◌, ℕ, ◌+◌, ◌<◌, List, [], ◌∷◌, length, take, slice_get, Some, None}
-use Rattle.calltext.specs.Limits.{long}
+use Rattle.calltext.specs.Grammar.{long}
 use Rattle.callorder.specs.Programs.{MpiProgram}
 use Rattle.callorder.specs.Resolving.{IsTextOfWithin}
 use Rattle.phases.specs.Conditions.{LeavesNothing}
-use Rattle.phases.specs.Rests.{IsFront, behind}
+use Rattle.phases.specs.Rests.{IsFront, behind, IsRest}
 use Rattle.deciding.specs.Decisions.{IsUndecided}
 use Rattle.deciding.specs.declared.texts.Undecided.TheVariants as undecided
 use Rattle.sealing.specs.declared.loose.Loose.{Loose}
-use Rattle.sealing.specs.Loose.{IsLoose, IsLooseSend}
+use Rattle.sealing.specs.Sealing.{IsLoose, IsLooseSend}
 use Rattle.phase_checker.specs.declared.phase.Phase.{Phase}
 use Rattle.phase_checker.specs.declared.reason.NotJoined.{NotJoined}
 use Rattle.phase_checker.specs.declared.reason.NotJoined.TheVariants as joins
@@ -102,3 +102,7 @@ IsNotJoined text phases order joins.Memory = Unit {0}
 IsNotJoined text phases order (joins.Read fault) = IsUndecided text (undecided.Read fault)
 IsNotJoined text phases order (joins.Resolve fault) = IsUndecided text (undecided.Resolve fault)
 IsNotJoined text phases order why = HasJoinFault text phases order why
+
+-- something is left of the program from these places on
+abbrev pub IsSomeRest : MpiProgram → List ℕ → Type 0
+IsSomeRest p next = (q : MpiProgram) × IsRest p next q

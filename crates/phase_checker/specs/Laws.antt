@@ -1,6 +1,6 @@
 -- What phases show of the program that they make up.
 use Rattle.std.specs.Prelude.{◌≡◌, ℕ, List}
-use Rattle.calltext.specs.Limits.{long}
+use Rattle.calltext.specs.Grammar.{long}
 use Rattle.semantics.specs.Headline.{IsNeverStuckWithin}
 use Rattle.phase_checker.specs.declared.phase.Phase.{Phase}
 use Rattle.phase_checker.specs.declared.reason.NotJoined.{NotJoined}

@@ -1,6 +1,6 @@
 -- Why a text is no phase.
 use Rattle.std.specs.Prelude.{ℕ, List}
-use Rattle.calltext.specs.Limits.{long}
+use Rattle.calltext.specs.Grammar.{long}
 use Rattle.semantics.specs.Headline.{IsStuckRunWithin}
 use Rattle.semantics.specs.declared.state.Step.{Step}
 use Rattle.deciding.specs.Decisions.{HasRace, IsUndecided}

@@ -1,3 +1,2 @@
 pub mod Early
 pub mod Parts
-pub mod Senders

@@ -1,7 +1,7 @@
 //! The first phase of an order for which a later one may send too early.
 
 ghost use Rattle.std.specs.Prelude.{◌≡◌, ◌↔◌, ◌<◌, [], IfOk, IfSome, IsTrue, get_or};
-ghost use Rattle.sealing.specs.Loose.{AreLoose};
+ghost use Rattle.sealing.specs.Sealing.{AreLoose};
 ghost use Rattle.phase_checker.specs.parts.Early.{AreEmpty, AreLooseEnds, AreLast, AreReachesOfLists, AreSenders, IsFirstWithin, IsReachOfList};
 ghost use Rattle.phase_checker.specs.parts.Parts.{IsFirstEarly};
 

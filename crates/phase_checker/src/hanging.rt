@@ -1,13 +1,13 @@
 //! A run of a program that gets stuck where one of its phases does.
 
 ghost use Rattle.std.specs.Prelude.{◌≡◌, IfOk, IfSome, length, true};
-ghost use Rattle.calltext.specs.Limits.{long};
+ghost use Rattle.calltext.specs.Grammar.{long};
 ghost use Rattle.callorder.specs.Programs.{MpiProgram};
 ghost use Rattle.callorder.specs.Resolving.{IsTextOfWithin};
 ghost use Rattle.semantics.specs.Headline.{IsStuckRunWithin};
 ghost use Rattle.semantics.specs.Machine.{IsStuckRun};
 ghost use Rattle.phases.specs.Rests.{IsRest};
-ghost use Rattle.phase_checker.specs.Hanging.{IsSomeRest};
+ghost use Rattle.phase_checker.specs.Dealing.{IsSomeRest};
 
 use crate::phase::Phase;
 use callorder::LongProgram;

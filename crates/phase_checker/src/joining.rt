@@ -1,7 +1,7 @@
 //! Whether phases make up a program.
 
 ghost use Rattle.std.specs.Prelude.{◌≡◌, ◌<◌, ◌≤◌, ◌⊎◌, length, IfOk, IfErr, IfSome};
-ghost use Rattle.calltext.specs.Limits.{long};
+ghost use Rattle.calltext.specs.Grammar.{long};
 ghost use Rattle.callorder.specs.Programs.{MpiProgram};
 ghost use Rattle.semantics.specs.Headline.{IsNeverStuckWithin};
 ghost use Rattle.phases.specs.Rests.{IsRest};

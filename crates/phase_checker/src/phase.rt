@@ -1,7 +1,7 @@
 //! Phases: programs that never get stuck, and what bears on others that follow them.
 
 ghost use Rattle.std.specs.Prelude.{◌≡◌, ◌↔◌, true};
-ghost use Rattle.calltext.specs.Limits.{long};
+ghost use Rattle.calltext.specs.Grammar.{long};
 ghost use Rattle.callorder.specs.ProgramRules.{IsProgramWithin};
 ghost use Rattle.semantics.specs.Headline.{NoStuckRun};
 ghost use Rattle.races.specs.Races.{NamesSources};
@@ -37,7 +37,7 @@ impl Phase {
     ghost use Rattle.callorder.specs.Programs.{MpiProgram};
     ghost use Rattle.callorder.specs.Resolving.{IsTextOfWithin};
     ghost use Rattle.phases.specs.Rests.{IsFront, IsRest, behind};
-    ghost use Rattle.sealing.specs.Loose.{AreLoose};
+    ghost use Rattle.sealing.specs.Sealing.{AreLoose};
     ghost use Rattle.checker.specs.Headline.{IsNeverStuck};
     ghost use Rattle.checker.specs.Verdicts.{Judges, RefutesProgram};
     ghost use Rattle.phase_checker.specs.Reasons.{IsNoPhase};

@@ -2,7 +2,7 @@
 
 ghost use Rattle.std.specs.Prelude.{◌≡◌, OnOk};
 ghost use Rattle.std.specs.List.{list_any};
-ghost use Rattle.phase_checker.specs.parts.Senders.{is_same, is_sent, place_sent, IsRaisedToPlace};
+ghost use Rattle.phase_checker.specs.parts.Early.{is_same, is_sent, place_sent, IsRaisedToPlace};
 ghost use Rattle.sealing.specs.declared.loose.Loose.{Loose};
 
 use callorder::Call;

@@ -1,7 +1,7 @@
 //! Dealing the calls of a program to its parts, one after another.
 
 ghost use Rattle.std.specs.Prelude.{◌≡◌, ◌↔◌, ◌+◌, ◌-◌, ◌≤◌, ◌<◌, true, false, ℕ, [], IfOk, length, get_or, slice_get, take, Some};
-ghost use Rattle.calltext.specs.Limits.{long};
+ghost use Rattle.calltext.specs.Grammar.{long};
 ghost use Rattle.callorder.specs.ProgramRules.{IsProgramWithin};
 ghost use Rattle.callorder.specs.Programs.{MpiProgram};
 ghost use Rattle.semantics.specs.Machine.{first_call};

@@ -1,6 +1,6 @@
 -- The first line of a map that may not stand there.
 use Rattle.std.proofs.Common.{◌≡◌, ◌∙◌, ◌⊎◌, ◌+◌, ℕ, true, false, List, [], ◌∷◌, ◌++◌, ap, inl, inr, refl, sym, subst, arith, codes, drop, get_or, length}
-use Rattle.plaintext.specs.TextLines.{text_lines}
+use Rattle.plaintext.specs.Plain.{text_lines}
 use Rattle.places.specs.Maps.{CanAllStand, IsFaultyLine, MayStand, map_heading}
 
 -- the first two lines of a map

@@ -6,8 +6,7 @@ use Rattle.std.specs.List.{Contains}
 use Rattle.std.proofs.lemmas.List.{append_cancel_left, append_cancel_right, length-append}
 use Rattle.std.proofs.lemmas.List.Elements.{Contains-append_cases, Contains-append_left, Contains-append_right}
 use Rattle.std.proofs.lemmas.Option.{slice_get_within}
-use Rattle.plaintext.specs.TextLines.{text_lines}
-use Rattle.plaintext.specs.Plain.{numeral}
+use Rattle.plaintext.specs.Plain.{numeral, text_lines}
 use Rattle.plaintext.proofs.Cuts.{no_line_of}
 use Rattle.plaintext.proofs.Numerals.{numeral_injective}
 use Rattle.places.specs.Maps.{AreOf, CanAllStand, HasLineOf, IsLineOf, IsMapFault, IsMapOf, IsRemark, MayStand, entry_line}

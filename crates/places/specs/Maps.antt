@@ -3,8 +3,7 @@ use Rattle.std.specs.Prelude.{◌≡◌, ◌⊎◌, ◌<◌, ◌≤◌, ◌+◌,
 use Rattle.std.specs.Fmt.{digits, format_spec, padded_integral}
 use Rattle.std.specs.List.{AllByRecursion, Contains, fold}
 use Rattle.plaintext.specs.Fronts.{IsFirstFaultyLine}
-use Rattle.plaintext.specs.TextLines.{text_lines}
-use Rattle.plaintext.specs.Plain.{numeral}
+use Rattle.plaintext.specs.Plain.{numeral, text_lines}
 use Rattle.places.specs.declared.entries.MapEntry.{MapEntry}
 use Rattle.places.specs.declared.map.MapFault.{MapFault}
 use Rattle.places.specs.declared.map.MapFault.TheVariants as faults

@@ -1,7 +1,7 @@
 //! The map of a program's text.
 
 ghost use Rattle.std.specs.Prelude.{◌≡◌, ◌≤◌, ◌+◌, ◌++◌, ◌∷◌, ◌↔◌, [], true, false, codes, IfErr, IfNone, IfOk, IfSome, IsTrue, List, ℕ, Some, length, slice_get, string_bytes};
-ghost use Rattle.plaintext.specs.TextLines.{text_lines};
+ghost use Rattle.plaintext.specs.Plain.{text_lines};
 ghost use Rattle.places.specs.Maps.{AreFrom, HasEntry, IsMapFault, IsMapOf, IsRemark, StartsWith, map_heading, hex_digits};
 ghost use Rattle.places.specs.parts.Noting.{HasNoPlace, IsTakenIf, Notes};
 ghost use Rattle.places.specs.declared.entries.MapEntry.{MapEntry};

@@ -5,8 +5,7 @@ use Rattle.std.specs.Prelude.{All}
 use Rattle.std.proofs.lemmas.List.Elements.{All-from_recursion}
 use Rattle.std.proofs.lemmas.List.Splits.{slice_split_none, slice_split_at, join_with_byte-slice_split}
 use Rattle.std.proofs.lemmas.List.{append_cancel_right}
-use Rattle.plaintext.specs.TextLines.{text_lines, IsPlain}
-use Rattle.plaintext.specs.Plain.{line_of}
+use Rattle.plaintext.specs.Plain.{line_of, text_lines, IsPlain}
 
 abbrev pub HasNo : ℕ → List ℕ → Type 0
 HasNo c bytes = AllByRecursion (λ b. (b ≡ c) → ⊥) bytes

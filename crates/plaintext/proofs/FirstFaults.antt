@@ -1,7 +1,7 @@
 -- The first faulty line of a text is one, over any language that is closed under fronts.
 use Rattle.std.proofs.Common.{◌≡◌, ℕ, ◌<◌, List, [], ◌∷◌, ◌++◌, length, refl, sym, ap, subst, ◌∙◌, append_assoc, arith, inl, inr}
 use Rattle.std.proofs.lemmas.Bool.{cases_lt}
-use Rattle.plaintext.specs.TextLines.{text_lines}
+use Rattle.plaintext.specs.Plain.{text_lines}
 use Rattle.plaintext.specs.Fronts.{to_end, BeginsWith, CanBegin, IsClosedUnderFronts, IsFirstFaultyLine}
 
 -- heads and tails of equal lists are equal

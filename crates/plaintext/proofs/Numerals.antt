@@ -9,8 +9,7 @@ use Rattle.std.proofs.lemmas.Str.{digit_value_digit}
 use Rattle.std.proofs.lemmas.List.{map_push, append-nil, length-map}
 use Rattle.std.proofs.lemmas.Fmt.{decimal-digits_of, decimal_digit}
 use Rattle.std.specs.Fmt.{decimal}
-use Rattle.plaintext.specs.TextLines.{IsPlain}
-use Rattle.plaintext.specs.Plain.{numeral}
+use Rattle.plaintext.specs.Plain.{numeral, IsPlain}
 
 -- what a digit's glyph stands for
 glyph_value : (d : ℕ) → d < 10 → digit_value (48 + d) ≡ d

@@ -6,8 +6,7 @@ use Rattle.std.proofs.lemmas.Grind.{flat_map-append}
 use Rattle.std.proofs.lemmas.List.Concat.{flat_map-cons}
 use Rattle.std.proofs.lemmas.List.{append-nil}
 use Rattle.std.proofs.lemmas.Bool.{eqb-true}
-use Rattle.plaintext.specs.TextLines.{text_lines, IsPlain}
-use Rattle.plaintext.specs.Plain.{line_of}
+use Rattle.plaintext.specs.Plain.{line_of, text_lines, IsPlain}
 use Rattle.plaintext.specs.Fronts.{to_end}
 use Rattle.plaintext.proofs.Cuts.{HasNo, text_lines_first, words_are}
 use Rattle.plaintext.proofs.Ascii.{all_append}

@@ -3,8 +3,7 @@
 -- language. No parser is needed to say so.
 use Rattle.std.specs.Prelude.{◌≡◌, ℕ, Bool, true, List, [], ◌∷◌, ◌++◌, map}
 use Rattle.std.specs.List.{AllByRecursion, flat_map}
-use Rattle.plaintext.specs.TextLines.{IsPlain, text_lines}
-use Rattle.plaintext.specs.Plain.{line_of}
+use Rattle.plaintext.specs.Plain.{line_of, IsPlain, text_lines}
 
 -- To the end of a text stand its lines, and then the end itself, which counts as a last line with
 -- no byte at all.

@@ -1,3 +1,2 @@
-pub mod TextLines
 pub mod Plain
 pub mod Fronts

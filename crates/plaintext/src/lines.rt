@@ -2,7 +2,7 @@
 
 ghost use Rattle.std.specs.Prelude.{◌≡◌, ◌<◌, ◌∷◌, ◌++◌, [], length, map, ◌==◌, IfNone, IfSome, IfOk, IsTrue, ◌↔◌};
 ghost use Rattle.std.specs.List.{slice_split};
-ghost use Rattle.plaintext.specs.TextLines.{text_lines};
+ghost use Rattle.plaintext.specs.Plain.{text_lines};
 
 use std::alloc::{AllocError, Global};
 

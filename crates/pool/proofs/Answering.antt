@@ -4,7 +4,7 @@ use Rattle.std.proofs.lemmas.List.{take_more}
 use Rattle.pool.specs.declared.events.Event.{Event}
 use Rattle.pool.specs.declared.events.Reply.{Reply}
 use Rattle.pool.specs.States.{PoolWithHistory}
-use Rattle.pool.specs.Runs.{IsAnswered, after_event, AreAnswered}
+use Rattle.pool.specs.Laws.{IsAnswered, after_event, AreAnswered}
 
 one_more : (k : PoolWithHistory) (events : List Event) (pool : PoolWithHistory) (replies : List Reply) (event : Event) (given : Reply)
     → AreAnswered k events pool replies → IsAnswered pool.held event given

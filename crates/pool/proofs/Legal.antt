@@ -6,9 +6,8 @@ use Rattle.pool.specs.declared.events.Event.{Event}
 use Rattle.pool.specs.declared.events.Event.TheVariants.{Publish, Fetch, Close, Split, Found, Leave}
 use Rattle.pool.specs.declared.events.Reply.{Reply}
 use Rattle.pool.specs.declared.events.Reply.TheVariants as reply
-use Rattle.pool.specs.Laws.{RunsAreLegal}
+use Rattle.pool.specs.Laws.{RunsAreLegal, IsAnswered, after_event, AreAnswered}
 use Rattle.pool.specs.Calls.{after_call}
-use Rattle.pool.specs.Runs.{IsAnswered, after_event, AreAnswered}
 use Rattle.pool.specs.States.{PoolWithHistory, IsStep, AreLegalReplies, after_items, opening_pool, noted, publish_item, fetch_item, close_item, split_item, found_item, leave_item}
 use Rattle.pool.proofs.Calls.{step_noted, publish_step, fetch_step, found_step}
 

@@ -1,5 +1,5 @@
--- The pool after each of its calls.
-use Rattle.std.specs.Prelude.{ℕ, Bool, true, false, if◌then◌else◌, List, Result, Err}
+-- The pool after each of its calls, and why a leaf isn't split.
+use Rattle.std.specs.Prelude.{ℕ, Bool, true, false, if◌then◌else◌, List, Result, Err, Option, Some, None}
 use Rattle.refutations.specs.Proofs.{ProofLine}
 use Rattle.semantics.specs.declared.state.Step.{Step}
 use Rattle.refutations.specs.declared.batch.BatchLine.{BatchLine}
@@ -16,7 +16,8 @@ use Rattle.pool.specs.declared.entry.CloseFault.TheVariants as close
 use Rattle.pool.specs.declared.entry.SplitFault.TheVariants as split
 use Rattle.pool.specs.declared.entry.FoundFault.TheVariants as found
 use Rattle.pool.specs.declared.entry.LoggedCall.{LoggedCall}
-use Rattle.pool.specs.States.{PoolWithHistory, noted, publish_item, fetch_item, close_item, split_item, found_item}
+use Rattle.pool.specs.States.{PoolWithHistory, noted, publish_item, fetch_item, close_item, split_item, found_item, PoolState, IsOpenLeaf, IsFormulaVariable, IsSplit}
+use Rattle.trees.specs.Trees.{HasNoRoom}
 
 -- the call was answered with want of memory
 abbrev pub wants_memory : Operation → Bool
@@ -45,3 +46,9 @@ after_split k worker leaf variable reply = after_call k (split_item worker leaf 
 
 abbrev pub after_found : PoolWithHistory → ℕ → List Step → Result (Unit {0}) FoundFault → PoolWithHistory
 after_found k worker steps reply = after_call k (found_item worker steps reply)
+
+-- none where it can be split
+abbrev pub IsSplitFault : PoolState → ℕ → ℕ → Option SplitFault → Type 0
+IsSplitFault h leaf variable None = IsOpenLeaf h leaf × (HasNoRoom h.tree.nodes leaf → ⊥) × IsFormulaVariable h variable
+IsSplitFault h leaf variable (Some split.Memory) = ⊥
+IsSplitFault h leaf variable (Some fault) = IsSplit h leaf variable (Err fault)

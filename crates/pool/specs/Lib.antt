@@ -5,8 +5,6 @@ pub mod Growth
 pub mod Laws
 pub mod Moves
 pub mod Reasons
-pub mod Refusals
 pub mod Replies
-pub mod Runs
 pub mod States
 pub mod parts

@@ -1,7 +1,7 @@
 //! Runs of a pool: lists of calls, and what they are answered.
 
 ghost use Rattle.std.specs.Prelude.{◌≡◌, IfOk};
-ghost use Rattle.pool.specs.Runs.{IsPoolRun, AreAnswered, IsAnswered, after_event};
+ghost use Rattle.pool.specs.Laws.{IsPoolRun, AreAnswered, IsAnswered, after_event};
 
 use crate::entry::{CloseFault, FetchFault, FoundFault, PublishFault, SplitFault};
 use crate::keep::Pool;

@@ -7,7 +7,7 @@ ghost use Rattle.prooflog.specs.declared.refutation.Version.TheVariants.{One};
 ghost use Rattle.pool.specs.Counts.{open_count};
 ghost use Rattle.pool.specs.Evidence.{IsTreeOf, IsAssembled, IsUndecidedPool};
 ghost use Rattle.pool.specs.Reasons.{IsSmallest};
-ghost use Rattle.pool.specs.Refusals.{IsSplitFault};
+ghost use Rattle.pool.specs.Calls.{IsSplitFault};
 ghost use Rattle.pool.specs.States.{next_number, IsOpenLeaf, IsClosedBy, IsFormulaVariable, IsSoundPool};
 ghost use Rattle.refutations.specs.Refutations.{Accepts};
 

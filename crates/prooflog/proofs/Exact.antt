@@ -4,8 +4,7 @@ use Rattle.std.proofs.Common.{◌≡◌, ◌≢◌, ℕ, ◌+◌, ◌-◌, List,
 use Rattle.std.specs.Prelude.{codes}
 use Rattle.std.specs.List.{AllByRecursion}
 use Rattle.std.proofs.lemmas.List.{append-nil, length-take}
-use Rattle.plaintext.specs.TextLines.{text_lines}
-use Rattle.plaintext.specs.Plain.{numeral, line_of}
+use Rattle.plaintext.specs.Plain.{numeral, line_of, text_lines}
 use Rattle.plaintext.specs.Fronts.{to_end, IsFirstFaultyLine}
 use Rattle.plaintext.proofs.Ascii.{plain_by_test}
 use Rattle.plaintext.proofs.Numerals.{IsPlain-numeral, numeral_injective}
@@ -31,7 +30,7 @@ use Rattle.prooflog.proofs.Fronts.{in_range_shape, small_front, closed_go_on}
 
 -- ---- the lines of a text are its value's
 
-pub plain_counts : (v c : ℕ) → AllByRecursion (λ (word : List ℕ). Rattle.plaintext.specs.TextLines.IsPlain word) (codes "refutation" ∷ numeral v ∷ numeral c ∷ [])
+pub plain_counts : (v c : ℕ) → AllByRecursion (λ (word : List ℕ). Rattle.plaintext.specs.Plain.IsPlain word) (codes "refutation" ∷ numeral v ∷ numeral c ∷ [])
 plain_counts v c = (plain_by_test (codes "refutation") refl, (IsPlain-numeral v, (IsPlain-numeral c, tt)))
 
 step_lines : (ws : List WrittenStep) → AllByRecursion IsLine (map step_line ws)

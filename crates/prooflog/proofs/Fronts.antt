@@ -3,7 +3,7 @@ use Rattle.std.proofs.Common.{◌≡◌, ℕ, zero, suc, ◌+◌, ◌-◌, ◌�
 use Rattle.std.specs.List.{list_all}
 use Rattle.std.proofs.lemmas.Bool.{and_parts}
 use Rattle.std.proofs.lemmas.List.{length-append, length-take, take_all}
-use Rattle.plaintext.specs.TextLines.{text_lines}
+use Rattle.plaintext.specs.Plain.{text_lines}
 use Rattle.plaintext.specs.Fronts.{to_end, IsClosedUnderFronts, IsFirstFaultyLine}
 use Rattle.plaintext.proofs.FirstFaults.{heads, begins_front}
 use Rattle.refutations.specs.Proofs.{ProofLine}

@@ -6,7 +6,7 @@ use Rattle.std.proofs.Math.Seq.{take-append_seam, take-append-add, take-length}
 use Rattle.std.proofs.lemmas.Bool.{and_parts, eqb-true, leb-true}
 use Rattle.std.proofs.lemmas.List.{append-nil, map-append, map_push, length-append, length-map, reverse-append}
 use Rattle.std.proofs.lemmas.List.Folds.{list_all-append}
-use Rattle.plaintext.specs.TextLines.{text_lines}
+use Rattle.plaintext.specs.Plain.{text_lines}
 use Rattle.plaintext.specs.Fronts.{to_end, BeginsWith}
 use Rattle.plaintext.proofs.Cuts.{no_line_of, words_are, line_is}
 use Rattle.plaintext.proofs.Texts.{capped_small}

@@ -4,7 +4,7 @@ use Rattle.std.specs.List.{AllByRecursion, flat_map, slice_range, list_all}
 use Rattle.std.proofs.lemmas.List.Concat.{flat_map-cons}
 use Rattle.std.proofs.lemmas.List.{map-append}
 use Rattle.std.proofs.lemmas.List.Folds.{list_all-append, drop_split}
-use Rattle.plaintext.specs.TextLines.{text_lines}
+use Rattle.plaintext.specs.Plain.{text_lines}
 use Rattle.plaintext.specs.Fronts.{to_end}
 use Rattle.plaintext.proofs.Cuts.{text_lines_first}
 use Rattle.plaintext.proofs.Texts.{IsLine, is_line, text_joined}

@@ -6,7 +6,7 @@ use Rattle.std.proofs.lemmas.List.{map-append}
 use Rattle.std.proofs.lemmas.List.Concat.{flat_map-cons}
 use Rattle.refutations.specs.Proofs.{ProofLine}
 use Rattle.prooflog.specs.Refutations.{item_line, a_proof}
-use Rattle.prooflog.specs.parts.Portions.{lines_text}
+use Rattle.prooflog.specs.parts.Reading.{lines_text}
 
 pub lines_text-append : (xs ys : List ProofLine) → lines_text (xs ++ ys) ≡ lines_text xs ++ lines_text ys
 lines_text-append xs ys = ap (flat_map item_line) (map-append a_proof xs ys) ∙ flat_map-append item_line (map a_proof xs) (map a_proof ys)

@@ -5,7 +5,7 @@ use Rattle.std.specs.List.{list_all}
 use Rattle.std.proofs.lemmas.Bool.{and_parts}
 use Rattle.std.proofs.lemmas.List.{append_cancel_right, map_push, length-append, length-map, length-take}
 use Rattle.std.proofs.lemmas.List.Folds.{list_all-append}
-use Rattle.plaintext.specs.TextLines.{text_lines}
+use Rattle.plaintext.specs.Plain.{text_lines}
 use Rattle.plaintext.specs.Fronts.{to_end, BeginsWith}
 use Rattle.plaintext.proofs.Cuts.{no_line_of, words_are, line_is}
 use Rattle.refutations.specs.Proofs.{ProofLine}

@@ -3,8 +3,7 @@ use Rattle.std.proofs.Common.{◌≡◌, ℕ, ◌<◌, ◌≤◌, Bool, true, fa
 use Rattle.std.specs.Prelude.{codes}
 use Rattle.std.specs.List.{AllByRecursion}
 use Rattle.std.proofs.lemmas.Str.Parse.{digit_from_value}
-use Rattle.plaintext.specs.TextLines.{IsPlain}
-use Rattle.plaintext.specs.Plain.{numeral}
+use Rattle.plaintext.specs.Plain.{numeral, IsPlain}
 use Rattle.plaintext.proofs.Numerals.{IsPlain-numeral, AllDigits-numeral, AllDigits_at, numeral_injective, numeral_nonempty}
 use Rattle.plaintext.proofs.Ascii.{plain_by_test, all_append}
 use Rattle.plaintext.proofs.Texts.{line_of_injective}

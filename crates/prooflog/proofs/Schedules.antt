@@ -7,7 +7,7 @@ use Rattle.std.proofs.lemmas.List.{map_push, length-append, length-map, length-t
 use Rattle.std.proofs.lemmas.List.Concat.{flat_map-cons}
 use Rattle.std.proofs.lemmas.List.Folds.{flat_map-map}
 use Rattle.std.proofs.lemmas.List.Elements.{All-push, All-map}
-use Rattle.plaintext.specs.TextLines.{text_lines}
+use Rattle.plaintext.specs.Plain.{text_lines}
 use Rattle.plaintext.specs.Fronts.{to_end, BeginsWith}
 use Rattle.plaintext.proofs.Cuts.{no_line_of}
 use Rattle.semantics.specs.declared.state.Step.{Step}

@@ -3,8 +3,7 @@
 use Rattle.std.proofs.Common.{◌≡◌, ◌≢◌, ℕ, ◌<◌, Bool, true, false, List, [], ◌∷◌, ◌++◌, length, get_or, refl, sym, ap, subst, ◌∙◌, arith}
 use Rattle.std.specs.Prelude.{codes}
 use Rattle.std.specs.List.{AllByRecursion}
-use Rattle.plaintext.specs.TextLines.{IsPlain}
-use Rattle.plaintext.specs.Plain.{numeral}
+use Rattle.plaintext.specs.Plain.{numeral, IsPlain}
 use Rattle.plaintext.proofs.Numerals.{IsPlain-numeral, numeral_injective}
 use Rattle.plaintext.proofs.Ascii.{plain_by_test}
 use Rattle.plaintext.proofs.Cuts.{words_are, line_is}

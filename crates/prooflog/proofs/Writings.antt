@@ -6,8 +6,7 @@ use Rattle.std.proofs.lemmas.Grind.{flat_map-append}
 use Rattle.std.proofs.lemmas.List.{append-nil, map_push, take_more}
 use Rattle.std.proofs.lemmas.List.Concat.{flat_map-cons}
 use Rattle.std.proofs.lemmas.List.Folds.{flat_map-map}
-use Rattle.plaintext.specs.TextLines.{spaced}
-use Rattle.plaintext.specs.Plain.{numeral}
+use Rattle.plaintext.specs.Plain.{numeral, spaced}
 use Rattle.plaintext.proofs.Spaced.{spaced-append, spaced-join}
 use Rattle.refutations.specs.Proofs.{ProofLine}
 use Rattle.prooflog.specs.declared.evidence.Evidence.TheVariants.{Refutation}
@@ -16,7 +15,7 @@ use Rattle.prooflog.specs.declared.refutation.Version.TheVariants.{One, Two}
 use Rattle.prooflog.specs.Refutations.{ClaimedRefutation, a_proof, the_tree, a_node, literal_word, item_line, items, IsRefutation}
 use Rattle.refutations.specs.declared.tree.Node.{Node}
 use Rattle.prooflog.specs.Grammar.{heading_line, refutation_line, IsEvidenceText}
-use Rattle.prooflog.specs.parts.Portions.{front_text, lines_text, tree_text}
+use Rattle.prooflog.specs.parts.Reading.{front_text, lines_text, tree_text}
 
 -- ---- words
 

@@ -1,2 +1,1 @@
-pub mod Portions
 pub mod Reading

@@ -2,7 +2,7 @@
 
 ghost use Rattle.std.specs.Prelude.{◌≡◌, ◌++◌, ◌∷◌, [], IfOk, OnOk};
 ghost use Rattle.std.specs.List.{flat_map};
-ghost use Rattle.prooflog.specs.parts.Portions.{lines_text, portion_text, portions_lines};
+ghost use Rattle.prooflog.specs.parts.Reading.{lines_text, portion_text, portions_lines};
 
 use crate::text::Text;
 use crate::writer::put_lines;

@@ -1,7 +1,7 @@
 //! The reader.
 
 ghost use Rattle.std.specs.Prelude.{◌≡◌, ◌≢◌, ◌+◌, ◌++◌, ◌∷◌, [], codes, length, map, true, false, IfNone, IfSome, IfOk, IfErr};
-ghost use Rattle.plaintext.specs.TextLines.{text_lines};
+ghost use Rattle.plaintext.specs.Plain.{text_lines};
 ghost use Rattle.prooflog.specs.Steps.{IsSchedule, written, step_line, schedule_line};
 ghost use Rattle.prooflog.specs.Grammar.{IsEvidenceText, heading_line};
 ghost use Rattle.prooflog.specs.declared.refutation.Version.TheVariants.{One};

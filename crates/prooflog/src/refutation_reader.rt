@@ -2,7 +2,7 @@
 
 ghost use Rattle.std.specs.Prelude.{◌≡◌, ◌≢◌, ◌+◌, ◌<◌, ◌≤◌, ◌⊎◌, ◌++◌, ◌∷◌, [], ℕ, List, length, map, true, false, IsTrue, IfNone, IfSome, IfOk, IfErr};
 ghost use Rattle.std.specs.List.{list_all};
-ghost use Rattle.plaintext.specs.TextLines.{text_lines};
+ghost use Rattle.plaintext.specs.Plain.{text_lines};
 ghost use Rattle.plaintext.specs.Fronts.{to_end};
 ghost use Rattle.refutations.specs.Proofs.{ProofLine, is_tree, are_numbered};
 ghost use Rattle.prooflog.specs.Refutations.{item_line, items, a_proof, a_node, the_tree, is_line_in_range, IsSmallRefutation, IsRefutation};

@@ -2,13 +2,12 @@
 
 ghost use Rattle.std.specs.Prelude.{◌≡◌, ◌++◌, ◌∷◌, [], List, IfOk, OnOk, map};
 ghost use Rattle.std.specs.List.{flat_map};
-ghost use Rattle.plaintext.specs.TextLines.{spaced};
-ghost use Rattle.plaintext.specs.Plain.{numeral};
+ghost use Rattle.plaintext.specs.Plain.{numeral, spaced};
 ghost use Rattle.refutations.specs.Proofs.{ProofLine};
 ghost use Rattle.prooflog.specs.Steps.{step_line, written, IsSchedule};
 ghost use Rattle.prooflog.specs.Refutations.{literal_word, item_line, a_proof, a_node};
 ghost use Rattle.prooflog.specs.Grammar.{IsEvidenceText, heading_line};
-ghost use Rattle.prooflog.specs.parts.Portions.{front_text, tree_text};
+ghost use Rattle.prooflog.specs.parts.Reading.{front_text, tree_text};
 
 use crate::evidence::Evidence;
 use crate::node::put_node;

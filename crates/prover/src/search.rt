@@ -1,7 +1,7 @@
 //! The search of a program's formula, over a pool that workers share.
 
 ghost use Rattle.std.specs.Prelude.{◌≡◌, ◌<◌, ◌≤◌, [], IfOk, length, map};
-ghost use Rattle.steal.specs.Deques.{AreDealt, deques_of};
+ghost use Rattle.steal.specs.Supplies.{AreDealt, deques_of};
 ghost use Rattle.crossbeam_utils.specs.Seq.{cell_view};
 ghost use Rattle.sharedpool.specs.Views.{knower};
 ghost use Rattle.prover.specs.parts.Searches.{smallest_with};

@@ -3,8 +3,7 @@ use Rattle.std.proofs.Common.{IfOk, List, ℕ, Result, Ok, Err}
 use Rattle.std.specs.Prelude.{IfSome}
 use Rattle.std.specs.Global.{Vec}
 use Rattle.std.specs.declared.alloc.AllocError.{AllocError}
-use Rattle.calltext.specs.Grammar.{IsTextWithin, ProgramText}
-use Rattle.calltext.specs.Limits.{long}
+use Rattle.calltext.specs.Grammar.{IsTextWithin, ProgramText, long}
 use Rattle.callorder.specs.Programs.{MpiProgram}
 use Rattle.callorder.specs.Resolving.{IsTextOfWithin}
 use Rattle.semantics.specs.RunEnds.{IsFinishedRun}

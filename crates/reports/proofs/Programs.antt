@@ -1,7 +1,7 @@
 -- The program of a text, within the short limits and within the long ones.
 use Rattle.std.proofs.Common.{◌≡◌, List, ℕ, arith}
 use Rattle.calltext.specs.WiderLimits.{IsWithin}
-use Rattle.calltext.specs.Limits.{long, short}
+use Rattle.calltext.specs.Grammar.{long, short}
 use Rattle.callorder.specs.Programs.{MpiProgram}
 use Rattle.callorder.specs.Resolving.{IsTextOf, IsTextOfWithin}
 use Rattle.callorder.proofs.FirstFaults.{same_program_within}

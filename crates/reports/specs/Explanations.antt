@@ -3,8 +3,7 @@ use Rattle.std.specs.Prelude.{◌≡◌, ℕ, List, [], ◌++◌, codes, decimal
 use Rattle.std.specs.List.{filter}
 use Rattle.options.specs.declared.form.Form.{Form}
 use Rattle.options.specs.declared.form.Form.TheVariants as forms
-use Rattle.calltext.specs.Grammar.{IsTextWithin, ProgramText}
-use Rattle.calltext.specs.Limits.{long, short}
+use Rattle.calltext.specs.Grammar.{IsTextWithin, ProgramText, long, short}
 use Rattle.calltext.specs.declared.limits.Limits.{Limits}
 use Rattle.callorder.specs.Programs.{MpiProgram}
 use Rattle.callorder.specs.Resolving.{IsTextOf, IsTextOfWithin}

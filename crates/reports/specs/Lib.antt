@@ -3,6 +3,5 @@ pub mod Exports
 pub mod Sizes
 pub mod Trimming
 pub mod FormulaTexts
-pub mod Replays
 pub mod Telling
 pub mod parts

@@ -1,5 +1,6 @@
--- A run told step by step, a line for each step.
-use Rattle.std.specs.Prelude.{codes, ℕ, ◌+◌, Bool, true, false, not, List, [], ◌∷◌, ◌++◌, Option, Some, None, slice_index}
+-- A run told step by step, a line for each step, and what a replay of an evidence on a program
+-- tells.
+use Rattle.std.specs.Prelude.{codes, ℕ, ◌+◌, Bool, true, false, not, List, [], ◌∷◌, ◌++◌, Option, Some, None, slice_index, ◌≡◌}
 use Rattle.plaintext.specs.Plain.{numeral}
 use Rattle.calltext.specs.declared.verb.Verb.{Verb}
 use Rattle.calltext.specs.declared.verb.Verb.TheVariants as verb
@@ -12,6 +13,13 @@ use Rattle.semantics.specs.declared.state.Step.{Step}
 use Rattle.semantics.specs.declared.state.Step.TheVariants.{Issue, Match, See}
 use Rattle.semantics.specs.Machine.{Configuration, opening, after}
 use Rattle.prooflog.specs.Steps.{step_line, written}
+use Rattle.calltext.specs.Readable.{IsText}
+use Rattle.calltext.specs.Grammar.{ProgramText}
+use Rattle.checker.specs.Headline.{Shows}
+use Rattle.checker.specs.Verdicts.{IsARefutation, IsReason, is_of_refutation}
+use Rattle.charts.specs.Lining.{lined_run}
+use Rattle.reports.specs.declared.steps.Replayed.{Replayed}
+use Rattle.reports.specs.declared.steps.Replayed.TheVariants as replays
 
 -- the verb of a call of this kind, as a program's text has it; a nonblocking call is one that is
 -- started
@@ -53,3 +61,17 @@ told_steps p m (step ∷ steps) = told_line p m step ++ told_steps p (after m st
 -- the lines that tell a run that ends stuck: a line for each step, and then `stuck`
 abbrev pub told_run : MpiProgram → List Step → List ℕ
 told_run p steps = told_steps p (opening p) steps ++ codes "stuck\n"
+
+-- the text tells the steps of a run of the program of a text, by the numbers of its calls, or by
+-- the lines that they stand in
+abbrev pub TellsRun : Bool → List ℕ → MpiProgram → List Step → List ℕ → Type 0
+TellsRun false program p steps text = text ≡ told_run p steps
+TellsRun true program p steps text = (source : ProgramText) × IsText program source × (text ≡ lined_run program source p steps)
+
+-- A replay that ends stuck is one of a schedule that shows a deadlock, and tells its steps. Else it
+-- is told that the evidence is no schedule, or the first reason why it shows none.
+abbrev pub TellsReplay : Bool → List ℕ → List ℕ → Replayed → Type 0
+TellsReplay lines program evidence (replays.Stuck text) =
+    (shown : Shows program evidence) × TellsRun lines program shown.p shown.steps text.items
+TellsReplay lines program evidence (replays.Refused reason) = IsReason program evidence reason × (is_of_refutation reason ≡ false)
+TellsReplay lines program evidence replays.NotASchedule = IsARefutation program evidence

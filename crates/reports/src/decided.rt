@@ -1,8 +1,7 @@
 //! What is told of a program of any length that one run decides.
 
 ghost use Rattle.std.specs.Prelude.{IfOk};
-ghost use Rattle.calltext.specs.Grammar.{IsTextWithin};
-ghost use Rattle.calltext.specs.Limits.{long};
+ghost use Rattle.calltext.specs.Grammar.{IsTextWithin, long};
 ghost use Rattle.callorder.specs.Resolving.{IsTextOfWithin};
 ghost use Rattle.semantics.specs.Headline.{IsNeverStuckWithin, IsStuckRunWithin};
 ghost use Rattle.reports.specs.Explanations.{IsRunDrawn, TellsSizes};

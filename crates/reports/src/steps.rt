@@ -3,8 +3,7 @@
 ghost use Rattle.std.specs.Prelude.{◌≡◌, ◌++◌, ◌≤◌, IfOk, IsSome, OnOk, length, slice_get, true};
 ghost use Rattle.calltext.specs.Readable.{IsText};
 ghost use Rattle.semantics.specs.Machine.{IsEnabled, IsRun, IsStuckRun, opening};
-ghost use Rattle.reports.specs.Replays.{TellsReplay, TellsRun};
-ghost use Rattle.reports.specs.Telling.{issue_words, told_issue_line, told_line, told_run, verb_of_kind};
+ghost use Rattle.reports.specs.Telling.{issue_words, told_issue_line, told_line, told_run, verb_of_kind, TellsReplay, TellsRun};
 
 use callorder::{Kind, LongProgram};
 use calltext::Verb;

@@ -1,7 +1,7 @@
 //! A run that ends stuck in each form, and what decided it.
 
 ghost use Rattle.std.specs.Prelude.{◌≡◌, IfOk, option_copied};
-ghost use Rattle.calltext.specs.Limits.{long};
+ghost use Rattle.calltext.specs.Grammar.{long};
 ghost use Rattle.callorder.specs.Resolving.{IsTextOf, IsTextOfWithin};
 ghost use Rattle.semantics.specs.RunEnds.{IsFinishedRun};
 ghost use Rattle.semantics.specs.Machine.{IsStuckRun};

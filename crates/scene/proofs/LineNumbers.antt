@@ -10,8 +10,7 @@ use Rattle.plaintext.specs.Plain.{line_of}
 use Rattle.calltext.specs.declared.call.CallLine.{CallLine}
 use Rattle.calltext.specs.declared.call.CallLine.TheVariants.{Send, Receive, MatchedProbe, Probe, MatchedReceive, Wait, WaitAll, SendReceive}
 use Rattle.calltext.specs.Readable.{IsReadableWithin}
-use Rattle.calltext.specs.Grammar.{ProgramText, call_words, rank_words, ranks_words, policy_words, rank_lines, program_lines}
-use Rattle.calltext.specs.Limits.{long}
+use Rattle.calltext.specs.Grammar.{ProgramText, call_words, rank_words, ranks_words, policy_words, rank_lines, program_lines, long}
 use Rattle.callorder.specs.Expansion.{NamedPart, parts_of, parts_of_lines, parts_of_ranks, wait_for}
 use Rattle.scene.specs.Lines.{heading_of, line_of_part, LinesAreNumbered}
 

@@ -6,8 +6,7 @@ use Rattle.callorder.specs.declared.calls.Call.{Call}
 use Rattle.semantics.specs.declared.state.Step.{Step}
 use Rattle.semantics.specs.Machine.{Configuration, after, after_all}
 use Rattle.scene.specs.declared.acts.Act.{Act}
-use Rattle.scene.specs.Acts.{act_of, acts_from}
-use Rattle.scene.specs.Labels.{Label, caller_rank, label_at, labels}
+use Rattle.scene.specs.Labels.{Label, caller_rank, label_at, labels, act_of, acts_from}
 
 -- what the steps so far do, and one more
 acts_push : (m : Configuration) (steps : List Step) (step : Step) → acts_from m (steps ++ step ∷ []) ≡ acts_from m steps ++ act_of (after_all m steps) step ∷ []

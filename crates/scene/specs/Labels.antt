@@ -1,4 +1,5 @@
--- How the calls of a program are told: by number, rank, line, and the words of the line.
+-- How the calls of a program are told: by number, rank, line, and the words of the line; and what
+-- the steps of a run do, with the calls that they are about.
 use Rattle.std.specs.Prelude.{codes, ℕ, zero, suc, ◌+◌, ◌-◌, ◌==◌, nat_le, if◌then◌else◌, List, [], ◌∷◌, ◌++◌, length, map, reverse, take, take_while, Option, Some, None, slice_get, slice_index, unwrap_or}
 use Rattle.std.specs.List.{slice_split, starts_with}
 use Rattle.calltext.specs.Grammar.{ProgramText}
@@ -6,6 +7,11 @@ use Rattle.callorder.specs.declared.calls.Call.{Call}
 use Rattle.callorder.specs.Expansion.{parts_of_text}
 use Rattle.callorder.specs.Programs.{MpiProgram}
 use Rattle.scene.specs.Lines.{line_of_part}
+use Rattle.semantics.specs.declared.state.Step.{Step}
+use Rattle.semantics.specs.declared.state.Step.TheVariants.{Issue, Match, See}
+use Rattle.semantics.specs.Machine.{Configuration, after}
+use Rattle.scene.specs.declared.acts.Act.{Act}
+use Rattle.scene.specs.declared.acts.Act.TheVariants as act
 
 -- a call as it is told: its number, from 1, its rank, from 0, the number of its line, from 1, and
 -- the words of that
@@ -65,3 +71,14 @@ labels lines numbers calls (suc place) =
 -- the calls of a program, in order, as they are told
 abbrev pub call_labels : List ℕ → ProgramText → MpiProgram → List Label
 call_labels text source p = labels (slice_split (λ b. b == 10) text) (numbers_of source) p.calls (length p.calls)
+
+-- what a step does in a configuration: an issue is that of the rank's next call
+abbrev pub act_of : Configuration → Step → Act
+act_of m (Issue rank buffered) = act.Issue (slice_index m.next rank) buffered
+act_of m (Match s t) = act.Match s t
+act_of m (See s f) = act.See s f
+
+-- what steps do, from a configuration on
+abbrev pub acts_from : Configuration → List Step → List Act
+acts_from m [] = []
+acts_from m (step ∷ steps) = act_of m step ∷ acts_from (after m step) steps

@@ -1,6 +1,3 @@
 pub mod Lines
 pub mod Labels
-pub mod Acts
-pub mod Needs
-pub mod Sizes
 pub mod Ends

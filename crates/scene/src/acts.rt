@@ -2,7 +2,7 @@
 
 ghost use Rattle.std.specs.Prelude.{◌≡◌, IfOk};
 ghost use Rattle.semantics.specs.Machine.{IsRun, after_all, opening};
-ghost use Rattle.scene.specs.Acts.{act_of, acts_from};
+ghost use Rattle.scene.specs.Labels.{act_of, acts_from};
 
 use callorder::LongProgram;
 use semantics::{State, Step};

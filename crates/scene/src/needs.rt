@@ -1,7 +1,7 @@
 //! What a rank that waits needs of the one that it waits for.
 
 ghost use Rattle.std.specs.Prelude.{◌≡◌, IsTrue, IfSome};
-ghost use Rattle.scene.specs.Needs.{is_missing, IsNeeded};
+ghost use Rattle.scene.specs.Ends.{is_missing, IsNeeded};
 
 use callorder::LongProgram;
 use semantics::State;

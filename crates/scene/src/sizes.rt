@@ -1,7 +1,7 @@
 //! How large a program is, for those who are told of it.
 
 ghost use Rattle.std.specs.Prelude.{◌≡◌};
-ghost use Rattle.scene.specs.Sizes.{is_large};
+ghost use Rattle.scene.specs.Ends.{is_large};
 
 use callorder::LongProgram;
 

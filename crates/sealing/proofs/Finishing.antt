@@ -23,7 +23,7 @@ use Rattle.phases.proofs.Waiting.{HasNextBelow, below_all}
 use Rattle.phases.proofs.Clean.{Reached, both_ways, reached_opening, reached_step}
 use Rattle.phases.proofs.Joined.{among, of_next}
 use Rattle.sealing.specs.Laws.{FinishTells}
-use Rattle.sealing.specs.Sure.{HasSurePartners}
+use Rattle.sealing.specs.Sealing.{HasSurePartners}
 use Rattle.sealing.proofs.Counterparts.{sure_partners_are_so}
 
 -- ---- what the return of a call tells

@@ -19,7 +19,7 @@ use Rattle.sealing.specs.declared.sides.Side.{Side}
 use Rattle.sealing.specs.declared.sides.Wanted.{Wanted}
 use Rattle.sealing.specs.declared.occurrences.Occurrence.{Occurrence}
 use Rattle.sealing.specs.parts.Sides.{wanted_found, wanted_of, wanted_by, envelope_of, acts_for, occurrence_at, is_exact, opposite, partner_in, AreOccurrences, ArePlaces, IsAskedByTaker, AreAsked, HasAllSure}
-use Rattle.sealing.specs.Sure.{HasSurePartners}
+use Rattle.sealing.specs.Sealing.{HasSurePartners}
 use Rattle.sealing.proofs.Acts.{side_with, sent, taken, senders, takers, side_of_send, side_of_taker, acts_so, sends_so, takes_with_so, wanted_is}
 use Rattle.sealing.proofs.Numbered.{occurrence_with, occurs, occurs_so, one_place}
 

@@ -9,8 +9,7 @@ use Rattle.races.specs.Races.{names_source}
 use Rattle.phases.proofs.Counting.{Fit, fit_parts}
 use Rattle.phases.proofs.Clean.{both_ways}
 use Rattle.sealing.specs.Laws.{NoLooseSendSeals}
-use Rattle.sealing.specs.Loose.{IsUntold, loose_of}
-use Rattle.sealing.specs.Sealing.{IsFoundBeforeFinish}
+use Rattle.sealing.specs.Sealing.{IsFoundBeforeFinish, IsUntold, loose_of}
 use Rattle.sealing.proofs.Finishing.{finish_tells}
 
 -- two calls that fit, as the only ones of a program

@@ -21,8 +21,7 @@ use Rattle.knowledge.proofs.Less.{Within, or_both}
 use Rattle.sealing.specs.declared.loose.Loose.{Loose}
 use Rattle.sealing.specs.declared.ends.Findings.{Findings}
 use Rattle.sealing.specs.declared.finders.Finder.{Finder}
-use Rattle.sealing.specs.Sure.{HasSurePartners}
-use Rattle.sealing.specs.Loose.{IsOfAnySource, IsUntold, IsLoose, AreLoose}
+use Rattle.sealing.specs.Sealing.{HasSurePartners, IsOfAnySource, IsUntold, IsLoose, AreLoose}
 use Rattle.sealing.specs.parts.Sides.{HasAllSure}
 use Rattle.sealing.specs.parts.Ends.{IsLastCall, AreLasts, AreFindings, tells_end, tells_finish, finder_with, finder_there, finder_at, sent_to, ListsEntry, IsUntoldBelow, GainsEntries, IsLooseBelow, AreLooseBelow}
 use Rattle.sealing.proofs.More.{return_more, justified_more}

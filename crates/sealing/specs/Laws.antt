@@ -9,9 +9,7 @@ use Rattle.phases.specs.Conditions.{LeavesNothing}
 use Rattle.phases.specs.CallPlaces.{IsWellFormed}
 use Rattle.phases.specs.Rests.{IsFront, behind}
 use Rattle.sealing.specs.declared.loose.Loose.{Loose}
-use Rattle.sealing.specs.Sealing.{IsFoundBeforeFinish, IsSealed}
-use Rattle.sealing.specs.Sure.{HasSurePartners, TellsFinish}
-use Rattle.sealing.specs.Loose.{IsLoose, IsLooseSend}
+use Rattle.sealing.specs.Sealing.{IsFoundBeforeFinish, IsSealed, HasSurePartners, TellsFinish, IsLoose, IsLooseSend}
 
 -- A program has no stuck run where a phase in front of it and what is left behind the phase have
 -- none, and the phase leaves no message and keeps to itself before what is left.

@@ -1,5 +1,3 @@
 pub mod Sealing
-pub mod Sure
-pub mod Loose
 pub mod Laws
 pub mod parts

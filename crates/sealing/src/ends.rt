@@ -2,7 +2,7 @@
 
 ghost use Rattle.std.specs.Prelude.{◌≡◌, IfOk, OnOk};
 ghost use Rattle.knowledge.specs.Knowledge.{column_table, with_partners};
-ghost use Rattle.sealing.specs.Loose.{AreLoose};
+ghost use Rattle.sealing.specs.Sealing.{AreLoose};
 ghost use Rattle.sealing.specs.parts.Ends.{tells_end, tells_finish, GainsEntries, AddsLoose, AreFindings, IsUntoldBelow};
 
 use crate::finders::{Finder, finder_at};

@@ -4,7 +4,7 @@ ghost use Rattle.std.specs.Prelude.{◌≡◌, IfOk, map};
 ghost use Rattle.std.specs.HashMap.{get};
 ghost use Rattle.std.specs.HashSet.{contains};
 ghost use Rattle.knowledge.specs.Knowledge.{with_partners};
-ghost use Rattle.sealing.specs.Sure.{HasSurePartners};
+ghost use Rattle.sealing.specs.Sealing.{HasSurePartners};
 ghost use Rattle.sealing.specs.parts.Sides.{opposite, partner_in, same_occurrence, same_wanted, HasAllSure};
 
 use crate::asked::{asked_by, is_exact};

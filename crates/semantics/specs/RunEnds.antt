@@ -1,8 +1,10 @@
--- How else runs end, and where a list of steps is no run.
-use Rattle.std.specs.Prelude.{◌≡◌, ℕ, ◌+◌, ◌<◌, IsTrue, List, take, Some, slice_get}
+-- How else runs end, where a list of steps is no run, and what a replay answers.
+use Rattle.std.specs.Prelude.{◌≡◌, ℕ, ◌+◌, ◌<◌, IsTrue, List, take, Some, slice_get, Result, Ok, Err}
 use Rattle.callorder.specs.Programs.{MpiProgram}
 use Rattle.semantics.specs.declared.state.Step.{Step}
-use Rattle.semantics.specs.Machine.{Configuration, IsEnabled, IsRun, IsStuck, after_all, is_rank_finished, opening}
+use Rattle.semantics.specs.Machine.{Configuration, IsEnabled, IsRun, IsStuck, after_all, is_rank_finished, opening, IsStuckRun}
+use Rattle.semantics.specs.declared.schedule.End.{End}
+use Rattle.semantics.specs.declared.schedule.End.TheVariants.{Stuck, Finished, Live}
 
 -- all ranks are finished; messages that nobody receives don't matter
 abbrev pub IsFinished : MpiProgram → Configuration → Type 0
@@ -27,3 +29,10 @@ pub record StopsAtStep (p : MpiProgram) (steps : List Step) (at : ℕ) : Type 0 
   pub there : slice_get steps place ≡ Some step
   pub run : IsRun p (opening p) (take place steps)
   pub not_enabled : IsEnabled p (after_all (opening p) (take place steps)) step → ⊥
+
+-- what each answer says of the steps
+abbrev pub Replays : MpiProgram → List Step → Result End ℕ → Type 0
+Replays p steps (Ok Stuck) = IsStuckRun p steps
+Replays p steps (Ok Finished) = IsFinishedRun p steps
+Replays p steps (Ok Live) = IsLiveRun p steps
+Replays p steps (Err at) = StopsAtStep p steps at

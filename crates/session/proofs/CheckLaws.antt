@@ -7,7 +7,7 @@ use Rattle.checker.specs.declared.reason.Reason.{Reason}
 use Rattle.checker.specs.declared.reason.Verdict.{Verdict}
 use Rattle.checker.specs.declared.reason.Verdict.TheVariants as verdicts
 use Rattle.checker.proofs.OneVerdicts.{kinds_differ, right_or_memory}
-use Rattle.reports.specs.Replays.{TellsReplay, TellsRun}
+use Rattle.reports.specs.Telling.{TellsReplay, TellsRun}
 use Rattle.reports.specs.declared.steps.Replayed.{Replayed}
 use Rattle.reports.specs.declared.steps.Replayed.TheVariants as replays
 use Rattle.session.specs.CheckLaws.{CheckedDeadlockIsPrinted, CheckedDeadlockIsShown, CheckedSafetyIsPrinted, CheckedSafetyIsTrue, EncodedFormulaIsPrinted, ReadFilesAreNotBlamed, RefutedIsChecked, ReplayedDeadlockIsShown, ReplayedRunIsPrinted, ShownDeadlockIsChecked, ShownDeadlockIsReplayed}

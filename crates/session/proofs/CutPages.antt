@@ -5,7 +5,7 @@ use Rattle.std.specs.List.{AllByRecursion}
 use Rattle.std.specs.Global.{Vec}
 use Rattle.std.proofs.lemmas.List.{length-map}
 use Rattle.std.proofs.lemmas.Option.{same_Some, slice_get-map}
-use Rattle.calltext.specs.Limits.{long}
+use Rattle.calltext.specs.Grammar.{long}
 use Rattle.callorder.specs.Programs.{MpiProgram}
 use Rattle.callorder.specs.Resolving.{IsTextOfWithin}
 use Rattle.files.specs.Contents.{AreAll}

@@ -1,10 +1,9 @@
 -- What the page of a decision tells.
 use Rattle.std.proofs.Common.{◌≡◌, ◌<◌, ℕ, Bool, List, Option, Ok, Err, Some, subst, arith}
-use Rattle.calltext.specs.Limits.{long}
+use Rattle.calltext.specs.Grammar.{long}
 use Rattle.semantics.specs.Headline.{IsNeverStuckWithin, IsStuckRunWithin}
 use Rattle.semantics.specs.declared.state.Step.{Step}
-use Rattle.deciding.specs.Decisions.{HasRace}
-use Rattle.deciding.specs.Schedules.{schedule_text}
+use Rattle.deciding.specs.Decisions.{HasRace, schedule_text}
 use Rattle.deciding.specs.declared.decision.CallerRace.{CallerRace}
 use Rattle.deciding.specs.declared.decision.Decision.TheVariants as decisions
 use Rattle.deciding.specs.declared.texts.Undecided.{Undecided}

@@ -1,6 +1,6 @@
 -- What the page of an explanation without an evidence tells.
 use Rattle.std.proofs.Common.{◌≡◌, ◌⊎◌, ◌<◌, ℕ, List, Option, Result, Ok, Err, None, Some, inl, inr, refl, sym, subst, arith}
-use Rattle.calltext.specs.Limits.{long, short}
+use Rattle.calltext.specs.Grammar.{long, short}
 use Rattle.callorder.specs.Programs.{MpiProgram}
 use Rattle.callorder.specs.Resolving.{IsTextOf, IsTextOfWithin}
 use Rattle.callorder.proofs.FirstFaults.{same_program_within}

@@ -2,11 +2,10 @@
 use Rattle.std.proofs.Common.{◌≡◌, ◌≢◌, ◌⊎◌, ◌<◌, ap, arith, inl, inr, sym, subst, ℕ, Bool, false, List, Option, Ok, Err, Some, None}
 use Rattle.std.specs.Io.KnownBytes.{Appends}
 use Rattle.clap.specs.Words.{Text}
-use Rattle.calltext.specs.Limits.{long}
+use Rattle.calltext.specs.Grammar.{long}
 use Rattle.semantics.specs.Headline.{IsNeverStuckWithin, IsStuckRunWithin}
 use Rattle.semantics.specs.declared.state.Step.{Step}
-use Rattle.deciding.specs.Decisions.{HasRace}
-use Rattle.deciding.specs.Schedules.{schedule_text}
+use Rattle.deciding.specs.Decisions.{HasRace, schedule_text}
 use Rattle.deciding.specs.declared.decision.CallerRace.{CallerRace}
 use Rattle.deciding.specs.declared.decision.Decision.TheVariants as decisions
 use Rattle.command_line.specs.Requests.{AskFor, Task}

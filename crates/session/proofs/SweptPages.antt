@@ -6,7 +6,7 @@ use Rattle.std.specs.Str.Lossy.{utf8_lossy}
 use Rattle.std.proofs.lemmas.List.{append-nil}
 use Rattle.std.proofs.lemmas.List.Sums.{fold-append}
 use Rattle.std.proofs.lemmas.Bool.{eqb-false, eqb-true, lt-ltb, ltb-true}
-use Rattle.calltext.specs.Limits.{long}
+use Rattle.calltext.specs.Grammar.{long}
 use Rattle.semantics.specs.Headline.{IsNeverStuckWithin, IsStuckRunWithin}
 use Rattle.deciding.specs.declared.decision.Decision.{Decision}
 use Rattle.deciding.specs.declared.decision.Decision.TheVariants as decisions

@@ -4,7 +4,7 @@ use Rattle.std.proofs.Common.{ℕ, Bool, true, false, List, inl, inr}
 use Rattle.options.specs.declared.form.Form.{Form}
 use Rattle.checker.specs.declared.reason.Reason.{Reason}
 use Rattle.prover.specs.Answers.{IsAnswer, CanFinish, FinishesIfUnknown, HasNoFormulaText}
-use Rattle.reports.specs.Replays.{TellsReplay}
+use Rattle.reports.specs.Telling.{TellsReplay}
 use Rattle.prover.specs.declared.answer.Answer.{Answer}
 use Rattle.prover.specs.declared.answer.Answer.TheVariants as answers
 use Rattle.reports.specs.declared.steps.Replayed.{Replayed}

@@ -3,7 +3,7 @@ use Rattle.std.specs.Prelude.{◌≡◌, ◌≢◌, ◌⊎◌, ℕ, Bool, List, 
 use Rattle.clap.specs.Words.{Text}
 use Rattle.checker.specs.Headline.{IsNeverStuck, Shows}
 use Rattle.checker.specs.Verdicts.{RefutesProgram}
-use Rattle.reports.specs.Replays.{TellsRun}
+use Rattle.reports.specs.Telling.{TellsRun}
 use Rattle.command_line.specs.Requests.{AskFor, to_encode}
 use Rattle.session.specs.Asking.{AskToCheck, AskToReplay, DeadlockIsShown, ShownIsTold, TellsSafety}
 use Rattle.session.specs.Endings.{SessionEnds}

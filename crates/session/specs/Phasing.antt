@@ -1,7 +1,7 @@
 -- The pages of `phases`, `join` and `decide --phases`.
 use Rattle.std.specs.Prelude.{◌≡◌, ◌≢◌, ◌⊎◌, ℕ, ◌+◌, ◌-◌, ◌<◌, ◌≤◌, Bool, true, false, IsTrue, List, [], ◌∷◌, ◌++◌, length, map, replicate, codes, decimal, Option, Some, Result, Ok, Err, slice_get}
 use Rattle.std.specs.List.{AllByRecursion, count_by, flat_map}
-use Rattle.calltext.specs.Limits.{long}
+use Rattle.calltext.specs.Grammar.{long}
 use Rattle.callorder.specs.Programs.{MpiProgram}
 use Rattle.callorder.specs.Resolving.{IsTextOfWithin}
 use Rattle.phases.specs.Rests.{IsFront, behind}
@@ -9,8 +9,7 @@ use Rattle.semantics.specs.Headline.{IsNeverStuckWithin, IsStuckRunWithin}
 use Rattle.semantics.specs.declared.state.Step.{Step}
 use Rattle.std.specs.Global.{Vec}
 use Rattle.files.specs.Contents.{AreAll}
-use Rattle.deciding.specs.Decisions.{IsDecided}
-use Rattle.deciding.specs.Schedules.{schedule_text}
+use Rattle.deciding.specs.Decisions.{IsDecided, schedule_text}
 use Rattle.deciding.specs.declared.decision.Decision.{Decision}
 use Rattle.deciding.specs.declared.decision.Decision.TheVariants as decisions
 use Rattle.deciding.specs.declared.texts.Undecided.{Undecided}

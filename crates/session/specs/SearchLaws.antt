@@ -1,11 +1,10 @@
 -- What follows from how a run of `prove`, `explain` or `decide` ended.
 use Rattle.std.specs.Prelude.{◌≡◌, ◌<◌, ◌⊎◌, ℕ, Bool, List, Option, Some, None, IsTrue}
 use Rattle.clap.specs.Words.{Text}
-use Rattle.calltext.specs.Limits.{long}
+use Rattle.calltext.specs.Grammar.{long}
 use Rattle.semantics.specs.Headline.{IsNeverStuckWithin, IsStuckRunWithin}
 use Rattle.semantics.specs.declared.state.Step.{Step}
-use Rattle.deciding.specs.Decisions.{HasRace}
-use Rattle.deciding.specs.Schedules.{schedule_text}
+use Rattle.deciding.specs.Decisions.{HasRace, schedule_text}
 use Rattle.deciding.specs.declared.decision.CallerRace.{CallerRace}
 use Rattle.options.specs.declared.form.Form.{Form}
 use Rattle.checker.specs.Headline.{IsNeverStuck, Shows}

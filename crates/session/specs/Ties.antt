@@ -1,8 +1,7 @@
 -- What is told of phases that are too large for a search.
 use Rattle.std.specs.Prelude.{◌≡◌, ◌⊎◌, ℕ, IsTrue, List, [], ◌++◌, codes, decimal}
 use Rattle.std.specs.List.{AllByRecursion, flat_map}
-use Rattle.calltext.specs.Grammar.{IsTextWithin, ProgramText}
-use Rattle.calltext.specs.Limits.{long}
+use Rattle.calltext.specs.Grammar.{IsTextWithin, ProgramText, long}
 use Rattle.callorder.specs.Programs.{MpiProgram, are_fit}
 use Rattle.deciding.specs.Decisions.{IsCaller, takes_any_source}
 use Rattle.session.specs.Racing.{caller_words, call_line_numbers}

@@ -2,7 +2,7 @@
 
 ghost use Rattle.std.specs.Prelude.{◌≡◌, ◌⊎◌, List, ℕ};
 ghost use Rattle.progress.specs.Telling.{AppendsAtMost};
-ghost use Rattle.session.specs.Advice.{IsAdvisedOn, advice_line, next_line};
+ghost use Rattle.session.specs.Lines.{IsAdvisedOn, advice_line, next_line};
 
 use calltext::Limits;
 use files::store;

@@ -1,7 +1,6 @@
 //! The command `decide`, from the file that it names to the page that it prints.
 ghost use Rattle.std.specs.Prelude.{◌≡◌, IfErr, IfOk, OnOk, Some, false, option_map};
-ghost use Rattle.deciding.specs.Decisions.{IsDecided};
-ghost use Rattle.deciding.specs.Schedules.{schedule_text};
+ghost use Rattle.deciding.specs.Decisions.{IsDecided, schedule_text};
 ghost use Rattle.files.specs.Contents.{AreAll};
 ghost use Rattle.command_line.specs.Requests.{path_of};
 ghost use Rattle.session.specs.Endings.{IsFollowedRun};

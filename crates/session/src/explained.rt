@@ -1,6 +1,6 @@
 //! The command `explain`, from the files that it names to the page that it prints.
 ghost use Rattle.std.specs.Prelude.{◌≡◌, IfErr, IfOk, Ok};
-ghost use Rattle.calltext.specs.Limits.{long};
+ghost use Rattle.calltext.specs.Grammar.{long};
 ghost use Rattle.semantics.specs.Headline.{IsNeverStuckWithin, IsStuckRunWithin};
 ghost use Rattle.deciding.specs.Decisions.{Decides, IsDecided};
 ghost use Rattle.command_line.specs.Requests.{path_of};

@@ -30,8 +30,7 @@ use Rattle.pool.proofs.Growth.{same_formula, told_stands, begins_with}
 use Rattle.pool.proofs.Moves.{batches_move}
 use Rattle.sharedpool.specs.Views.{items_of}
 use Rattle.sharedpool.specs.parts.Seats.{Token, IsLocked}
-use Rattle.sharedpool.specs.Seats.{Chair, told_publish, told_fetch, told_close, told_split, told_found, told_leave}
-use Rattle.sharedpool.specs.Told.{IsViewTold, GoesOnByFetch, IsDerivedFrom}
+use Rattle.sharedpool.specs.Seats.{Chair, told_publish, told_fetch, told_close, told_split, told_found, told_leave, IsViewTold, GoesOnByFetch, IsDerivedFrom}
 
 -- ---- a longer list
 

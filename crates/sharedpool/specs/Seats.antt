@@ -1,5 +1,5 @@
--- What the lock and the seats hold, and what a call adds to a seat.
-use Rattle.std.specs.Prelude.{◌≡◌, ℕ, ◌+◌, ◌<◌, drop, List, [], ◌∷◌, ◌++◌, length, map, All, Option, Some, slice_get, Result, Ok, Err}
+-- What the lock and the seats hold, what a call adds to a seat, and what a seat knows of the log.
+use Rattle.std.specs.Prelude.{◌≡◌, ℕ, ◌+◌, ◌<◌, drop, List, [], ◌∷◌, ◌++◌, length, map, All, Option, Some, slice_get, Result, Ok, Err, ◌⊎◌, ◌≤◌, take, IsTrue}
 use Rattle.std.specs.List.{range_with_len}
 use Rattle.refutations.specs.declared.batch.BatchLine.{BatchLine}
 use Rattle.clauses.specs.Clauses.{Conjunction}
@@ -20,9 +20,11 @@ use Rattle.pool.specs.declared.entry.CloseFault.TheVariants as close
 use Rattle.pool.specs.declared.entry.SplitFault.TheVariants as split
 use Rattle.pool.specs.declared.entry.FoundFault.TheVariants as found
 use Rattle.pool.specs.declared.why.Why.{Why}
-use Rattle.pool.specs.Replies.{resolved_lines, FailsAt}
+use Rattle.pool.specs.Replies.{resolved_lines, FailsAt, DeriveAfter}
 use Rattle.pool.specs.States.{PoolState, PoolWithHistory, IsLegal, AreLegalReplies, after_items, publish_item, fetch_item, close_item, split_item, found_item, leave_item}
 use Rattle.sharedpool.specs.Views.{items_of, AllBelow, AreDifferent}
+use Rattle.pool.specs.Growth.{Tells}
+use Rattle.pool.specs.Moves.{are_earlier, number_after}
 
 -- a seat: its worker, and the items of its calls in order
 pub record Chair : Type 0 where
@@ -120,3 +122,17 @@ pub record IsFinishedPool (opening : PoolState) (seats : List Chair) (pool : Poo
   pub lists : All (λ (seat : Chair). seat.mine ≡ items_of seat.worker items) seats
   pub others : AllBelow (length seats) items
   pub counts_are : counts ≡ map (λ worker. length (items_of worker items)) (range_with_len 0 (length seats))
+
+-- each line of the view was published or told by one of these items
+abbrev pub IsViewTold : Conjunction → List LoggedCall → List ProofLine → Type 0
+IsViewTold formula mine view = (place : ℕ) (line : ProofLine) → slice_get view place ≡ Some line → (i : ℕ) × (item : LoggedCall) × (slice_get mine i ≡ Some item) × Tells formula item place line
+
+-- what was told before a fetch, and after it: the same, or the lines before the place that it was
+-- asked from and then those of its answer
+abbrev pub GoesOnByFetch : List ProofLine → ℕ → Result (List ProofLine) FetchFault → List ProofLine → Type 0
+GoesOnByFetch view from reply after = (after ≡ view) ⊎ ((lines : List ProofLine) × (reply ≡ Ok lines) × (from ≤ length view) × (after ≡ take from view ++ lines))
+
+-- the lines of a batch derive behind these, each from what stands before it, and name nothing else
+abbrev pub IsDerivedFrom : Conjunction → List ProofLine → List BatchLine → Type 0
+IsDerivedFrom formula view batch =
+    IsTrue (are_earlier (number_after formula view) batch) × DeriveAfter formula view (resolved_lines (number_after formula view) batch)

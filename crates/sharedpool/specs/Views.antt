@@ -2,8 +2,6 @@
 -- order, that worker's items among them, and there are no others. No worker has two seats, and none
 -- whose seat was taken back has one
 use Rattle.std.specs.Prelude.{◌≢◌, ℕ, ◌<◌, ◌==◌, true, false, if◌then◌else◌, List, [], ◌∷◌}
-use mathlib.Core.Option.{some}
-use lib.ListN.{get_elem?}
 use Rattle.pool.specs.declared.entry.LoggedCall.{LoggedCall}
 use Rattle.sharedpool.specs.declared.room.View.{View}
 

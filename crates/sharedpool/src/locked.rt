@@ -8,8 +8,7 @@ ghost use Rattle.crossbeam_utils.specs.Seq.{cell_view};
 ghost use Rattle.sharedpool.specs.parts.Leaves.{has_entry, places_after};
 ghost use Rattle.sharedpool.specs.Leaves.{has_left};
 ghost use Rattle.sharedpool.specs.Views.{knower, items_of};
-ghost use Rattle.sharedpool.specs.Seats.{HoldsOver, IsRefusedOver, told_publish, told_fetch, told_close, told_split, told_found, told_leave};
-ghost use Rattle.sharedpool.specs.Told.{IsViewTold, IsDerivedFrom};
+ghost use Rattle.sharedpool.specs.Seats.{HoldsOver, IsRefusedOver, told_publish, told_fetch, told_close, told_split, told_found, told_leave, IsViewTold, IsDerivedFrom};
 
 use crate::note::{match_lists, note};
 use crate::room::{Cell, PoolName, StepsName, Token};

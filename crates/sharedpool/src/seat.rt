@@ -4,7 +4,6 @@ ghost use Rattle.std.specs.Prelude.{◌≡◌, ◌≤◌, ◌<◌, ◌+◌, ◌�
 ghost use Rattle.crossbeam_utils.specs.Seq.{cell_view};
 ghost use Rattle.pool.specs.Moves.{AreOfBatch};
 ghost use Rattle.sharedpool.specs.parts.Seats.{IsSeat};
-ghost use Rattle.sharedpool.specs.Told.{GoesOnByFetch, IsDerivedFrom};
 ghost use Rattle.sharedpool.specs.parts.Views.{taker};
 ghost use Rattle.sharedpool.specs.Views.{items_of, AllBelow, AreDifferent};
 
@@ -29,7 +28,7 @@ pub(crate) struct Ticket<B: PoolName> {
 impl<B: PoolName> Model for Ticket<B> {
     ghost use Rattle.crossbeam_utils.specs.Seq.{cell_view};
     ghost use Rattle.sharedpool.specs.parts.Seats.{IsSeat};
-    ghost use Rattle.sharedpool.specs.Seats.{Chair};
+    ghost use Rattle.sharedpool.specs.Seats.{Chair, GoesOnByFetch, IsDerivedFrom, IsViewTold};
 
     ghost Value = { Chair };
 
@@ -53,7 +52,6 @@ pub struct Seat<B: PoolName> {
 impl<B: PoolName> Model for Seat<B> {
     ghost use Rattle.std.specs.Prelude.{◌≡◌, ◌+◌, length};
     ghost use Rattle.sharedpool.specs.Seats.{Chair};
-    ghost use Rattle.sharedpool.specs.Told.{IsViewTold};
 
     ghost Value = { Chair };
 

@@ -1,6 +1,6 @@
 -- What hangs within the long limits, and within the short ones.
 use Rattle.std.proofs.Common.{◌≡◌, ℕ, List, subst, arith}
-use Rattle.calltext.specs.Limits.{long, short}
+use Rattle.calltext.specs.Grammar.{long, short}
 use Rattle.callorder.specs.Programs.{MpiProgram}
 use Rattle.callorder.specs.Resolving.{IsTextOf, IsTextOfWithin}
 use Rattle.callorder.proofs.FirstFaults.{same_program_within}

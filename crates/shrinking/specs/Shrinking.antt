@@ -1,7 +1,7 @@
 -- What a smaller text keeps, and why there is none.
 use Rattle.std.specs.Prelude.{ℕ, ◌≤◌, ◌==◌, ◌⊎◌, List, length}
 use Rattle.std.specs.List.{count_by}
-use Rattle.calltext.specs.Limits.{long}
+use Rattle.calltext.specs.Grammar.{long}
 use Rattle.semantics.specs.Headline.{IsStuckRunWithin}
 use Rattle.semantics.specs.declared.state.Step.{Step}
 use Rattle.checker.specs.Verdicts.{IsProgramReason}

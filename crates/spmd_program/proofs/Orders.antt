@@ -1,8 +1,7 @@
 -- Whether the requests and handles of a program are right, of which the text was read.
 use Rattle.std.proofs.Common.{◌≡◌, ℕ, ◌-◌, List, Option, ap, subst, ◌∙◌}
 use Rattle.std.specs.Global.{Vec}
-use Rattle.calltext.specs.Grammar.{ProgramText, IsTextWithin}
-use Rattle.calltext.specs.Limits.{long}
+use Rattle.calltext.specs.Grammar.{ProgramText, IsTextWithin, long}
 use Rattle.calltext.proofs.Exact.{one_value_within}
 use Rattle.callorder.specs.Programs.{MpiProgram}
 use Rattle.callorder.specs.FirstFaults.{IsFirstCallFault}

@@ -7,9 +7,8 @@ use Rattle.std.specs.List.{flat_map, AllByRecursion}
 use Rattle.std.specs.Global.{Vec}
 use Rattle.plaintext.proofs.Ascii.{all_append}
 use Rattle.calltext.specs.declared.call.CallLine.{CallLine}
-use Rattle.calltext.specs.Grammar.{CallFits}
-use Rattle.calltext.specs.Limits.{long}
-use Rattle.calltext.specs.parts.Printed.{heads, rank_text, ranks_text}
+use Rattle.calltext.specs.Grammar.{CallFits, long}
+use Rattle.calltext.specs.parts.Body.{heads, rank_text, ranks_text}
 use Rattle.calltext.proofs.PrintLaws.{ranks_text-push, text_is}
 use Rattle.spmd_text.specs.declared.reading.SpmdPolicy.{SpmdPolicy}
 use Rattle.unroll.specs.declared.call.Placed.{Placed}

@@ -3,7 +3,7 @@ use Rattle.std.proofs.Common.{◌≡◌, ℕ, Bool, true, false, List, [], ◌�
 use Rattle.std.specs.Prelude.{◌==◌, if◌then◌else◌}
 use Rattle.std.specs.Global.{Vec}
 use Rattle.std.proofs.lemmas.List.{map_push}
-use Rattle.plaintext.specs.TextLines.{text_lines}
+use Rattle.plaintext.specs.Plain.{text_lines}
 use Rattle.spmd_program.specs.Maps.{blank_before_byte, is_blank_byte, said_lines, words_from, words_of_line}
 
 -- the end of a line says nothing

@@ -5,18 +5,16 @@ use Rattle.std.proofs.lemmas.Grind.{flat_map-append}
 use Rattle.std.proofs.Math.Seq.{drop-cons}
 use Rattle.std.specs.List.{flat_map}
 use Rattle.std.specs.Global.{Vec}
-use Rattle.plaintext.specs.TextLines.{spaced}
-use Rattle.plaintext.specs.Plain.{line_of}
+use Rattle.plaintext.specs.Plain.{line_of, spaced}
 use Rattle.plaintext.proofs.Ascii.{all_append}
 use Rattle.calltext.specs.declared.call.CallLine.{CallLine}
-use Rattle.calltext.specs.Grammar.{CallFits, HasNames, IsInRange, call_words}
-use Rattle.calltext.specs.Limits.{long}
+use Rattle.calltext.specs.Grammar.{CallFits, HasNames, IsInRange, call_words, long}
 use Rattle.calltext.specs.parts.Verbs.{name_words, number_words}
 use Rattle.calltext.specs.Verbs.{verb_of, verb_word}
 use Rattle.calltext.proofs.PrintLaws.{call_line}
 use Rattle.unroll.specs.declared.call.Placed.{Placed}
 use Rattle.spmd_program.specs.Lines.{lines_at, lines_of_calls}
-use Rattle.spmd_program.specs.Written.{AreLinesWritten}
+use Rattle.spmd_program.specs.Programs.{AreLinesWritten}
 
 -- a line is its verb, its names and its numbers with a space before each, and an LF
 pub line_written : (line : CallLine) (old mid new : List ℕ) → mid ≡ ((old ++ verb_word (verb_of line)) ++ spaced (name_words line)) ++ spaced (number_words line) → new ≡ mid ++ 10 ∷ []

@@ -1,5 +1,4 @@
 pub mod Lines
-pub mod Written
 pub mod Programs
 pub mod Told
 pub mod Maps

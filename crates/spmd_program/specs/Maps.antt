@@ -1,8 +1,7 @@
 -- The map of a program's text: for each of its lines the place in the SPMD text that it comes from.
 use Rattle.std.specs.Prelude.{codes, ℕ, zero, suc, ◌+◌, ◌-◌, ◌*◌, ◌/◌, ◌%◌, ◌^◌, Bool, true, false, ◌&&◌, ◌||◌, not, ◌==◌, nat_lt, bit_xor, List, [], ◌∷◌, ◌++◌, length, map, decimal, slice_get, Option, Some, None, if◌then◌else◌}
 use Rattle.std.specs.Global.{Vec}
-use Rattle.plaintext.specs.TextLines.{text_lines}
-use Rattle.plaintext.specs.Plain.{numeral}
+use Rattle.plaintext.specs.Plain.{numeral, text_lines}
 use Rattle.unroll.specs.declared.call.Placed.{Placed}
 use Rattle.unroll.specs.declared.call.Turn.{Turn}
 use Rattle.spmd_program.specs.Lines.{begins_line}

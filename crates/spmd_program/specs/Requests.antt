@@ -1,7 +1,7 @@
 -- What is wrong with the requests and handles of an unrolled text, told by the line of that text.
 use Rattle.std.specs.Prelude.{codes, ◌≡◌, ℕ, ◌-◌, Bool, ◌&&◌, nat_eq, List, [], ◌∷◌, ◌++◌, Option, Some, None, if◌then◌else◌}
 use Rattle.std.specs.Global.{Vec}
-use Rattle.calltext.specs.Limits.{long}
+use Rattle.calltext.specs.Grammar.{long}
 use Rattle.callorder.specs.Programs.{MpiProgram}
 use Rattle.callorder.specs.FirstFaults.{IsFirstCallFault}
 use Rattle.callorder.specs.Resolving.{IsProgramOfWithin}

@@ -6,15 +6,13 @@
 ghost use Rattle.std.specs.Prelude.{◌≡◌, ◌++◌, ◌∷◌, [], ◌≤◌, IfSome, IsTrue, List, OnOk, ℕ};
 ghost use Rattle.std.specs.Global.{Vec};
 ghost use Rattle.std.specs.List.{AllByRecursion};
-ghost use Rattle.calltext.specs.Grammar.{HasNames, IsCommunicator, IsInRange, UpTo, communicator_words, or_star};
-ghost use Rattle.calltext.specs.Limits.{long};
+ghost use Rattle.calltext.specs.Grammar.{HasNames, IsCommunicator, IsInRange, UpTo, communicator_words, or_star, long};
 ghost use Rattle.calltext.specs.Names.{AreNames, is_name};
 ghost use Rattle.calltext.specs.parts.Verbs.{message_words, name_words, number_words, pattern_words, request_words};
 ghost use Rattle.calltext.specs.Verbs.{verb_of};
-ghost use Rattle.plaintext.specs.TextLines.{spaced};
-ghost use Rattle.plaintext.specs.Plain.{numeral};
+ghost use Rattle.plaintext.specs.Plain.{numeral, spaced};
 ghost use Rattle.spmd_program.specs.Lines.{further, line_of_call, lines_at, lines_of_calls, mode_of, spelled_request, spelled, shown_communicator};
-ghost use Rattle.spmd_program.specs.Written.{AreLinesWritten};
+ghost use Rattle.spmd_program.specs.Programs.{AreLinesWritten};
 ghost use Rattle.unroll.specs.declared.call.Placed.{Placed};
 
 use crate::names::put_label;

@@ -2,7 +2,7 @@
 
 ghost use Rattle.std.specs.Prelude.{◌≡◌, ◌++◌, ◌∷◌, [], IfOk, IsTrue, OnOk};
 ghost use Rattle.calltext.specs.Names.{are_letters_or_digits, is_name};
-ghost use Rattle.plaintext.specs.TextLines.{spaced};
+ghost use Rattle.plaintext.specs.Plain.{spaced};
 ghost use Rattle.spmd_program.specs.Lines.{index_text, name_at, spelled};
 
 use plaintext::put_number;

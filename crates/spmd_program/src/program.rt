@@ -3,7 +3,7 @@
 ghost use Rattle.std.specs.Prelude.{◌≡◌, ◌++◌, ◌≤◌, ◌<◌, [], IfOk, OnErr, OnOk};
 ghost use Rattle.std.specs.List.{AllByRecursion};
 ghost use Rattle.calltext.specs.Grammar.{policy_word};
-ghost use Rattle.calltext.specs.parts.Printed.{heads, rank_text};
+ghost use Rattle.calltext.specs.parts.Body.{heads, rank_text};
 ghost use Rattle.spmd_program.specs.Lines.{lines_of_calls};
 ghost use Rattle.spmd_program.specs.parts.Programs.{IsRankWritten};
 ghost use Rattle.spmd_program.specs.Programs.{IsProgramText, policy_of_buffering};

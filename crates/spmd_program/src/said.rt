@@ -1,7 +1,7 @@
 //! What the lines of an SPMD text say.
 
 ghost use Rattle.std.specs.Prelude.{◌≡◌, ◌++◌, IfOk, OnOk, map};
-ghost use Rattle.plaintext.specs.TextLines.{text_lines};
+ghost use Rattle.plaintext.specs.Plain.{text_lines};
 ghost use Rattle.spmd_program.specs.Maps.{blank_before_byte, is_blank_byte, said_lines, words_of_line};
 
 use plaintext::next_line;

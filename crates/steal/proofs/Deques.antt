@@ -8,8 +8,7 @@ use Rattle.steal.specs.declared.seats.OwnerSeat.{OwnerSeat}
 use Rattle.steal.specs.declared.seats.ThiefSeat.{ThiefSeat}
 use Rattle.steal.specs.declared.supply.Supply.{Supply}
 use Rattle.steal.specs.Seats.{IsThiefOf, IsSameThief}
-use Rattle.steal.specs.Supplies.{AreSupplies, IsSameSupply, owners_of}
-use Rattle.steal.specs.Deques.{DequeId, Deques, deques_of, AreDealt}
+use Rattle.steal.specs.Supplies.{AreSupplies, IsSameSupply, owners_of, DequeId, Deques, deques_of, AreDealt}
 
 abbrev thief_deque : ThiefSeat → DequeId
 thief_deque t = stealer_deque t.thief

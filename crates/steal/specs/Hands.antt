@@ -1,8 +1,6 @@
 -- What each seat of a deque has pushed and taken, and how that ties the seats to the cubes in the
 -- deque.
 use Rattle.std.specs.Prelude.{ℕ, ◌==◌, List, count_by}
-use mathlib.Core.Option.{some}
-use lib.ListN.{get_elem?}
 
 -- one part for each thief, and the rest for the owner
 abbrev pub all_parts : ℕ

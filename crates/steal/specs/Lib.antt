@@ -1,4 +1,3 @@
-pub mod Deques
 pub mod Hands
 pub mod Seats
 pub mod Stolen

@@ -1,10 +1,13 @@
--- What contracts see of the supplies of several workers.
+-- What contracts see of the supplies of several workers, and at which deques they have seats.
 use Rattle.std.specs.Prelude.{◌≡◌, ℕ, Bool, List, ◌∷◌, ◌++◌, All, map, length, count_by}
 use Rattle.std.specs.List.{AllZip, flat_map}
 use Rattle.steal.specs.declared.seats.OwnerSeat.{OwnerSeat}
 use Rattle.steal.specs.declared.seats.ThiefSeat.{ThiefSeat}
 use Rattle.steal.specs.declared.supply.Supply.{Supply}
 use Rattle.steal.specs.Seats.{pushed, popped, stolen_by, thief_count, IsThiefOf, IsSameOwner, IsSameThief}
+use Rattle.std.specs.Global.{Global}
+use Rattle.atomic_blocks.specs.Lent.{RowsId}
+use Rattle.crossbeam_deque.specs.Handles.{stealer_deque, worker_deque}
 
 -- the cubes that a worker has put into its deque, in order
 abbrev pub given : Supply → List ℕ
@@ -43,3 +46,19 @@ HasOneMore old cube new = (p : ℕ → Bool) → count_by p new ≡ count_by p (
 -- what worked with its own seats alone has left supplies that were dealt together as such
 abbrev pub SuppliesStay : Type 0
 SuppliesStay = (old new : List Supply) → AllZip IsSameSupply old new → AreSupplies old → AreSupplies new
+
+abbrev pub DequeId : Type 0
+DequeId = RowsId × Global
+
+-- the deque of a supply's own, how many thieves that was made with, and those of its thieves
+pub record Deques : Type 0 where
+  pub own : DequeId
+  pub count : ℕ
+  pub thieves : List DequeId
+
+abbrev pub deques_of : Supply → Deques
+deques_of s = record { own = worker_deque s.own.owner; count = thief_count s.own; thieves = map (λ (t : ThiefSeat). stealer_deque t.thief) s.thieves.items }
+
+-- each has a thief at each one's own deque, in order, and there are no other thieves
+abbrev pub AreDealt : List Deques → Type 0
+AreDealt all = All (λ (d : Deques). (d.thieves ≡ map (λ (e : Deques). e.own) all) × (d.count ≡ length all)) all

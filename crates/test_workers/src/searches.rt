@@ -65,7 +65,7 @@ struct Narrow {
 }
 
 impl Cubes for Narrow {
-    ghost use Rattle.steal.specs.Deques.{deques_of};
+    ghost use Rattle.steal.specs.Supplies.{deques_of};
 
     ghost deques = { λ narrow. deques_of narrow.cubes };
 

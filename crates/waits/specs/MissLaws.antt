@@ -3,7 +3,7 @@ use Rattle.std.specs.Prelude.{◌≡◌, ◌≢◌, ◌↔◌, ℕ, false, IsTru
 use Rattle.callorder.specs.declared.calls.Call.{Call}
 use Rattle.callorder.specs.declared.calls.Message.{Message}
 use Rattle.callorder.specs.declared.calls.Pattern.{Pattern}
-use Rattle.callorder.specs.Calls.{message_of, pattern_of, fits}
+use Rattle.callorder.specs.Calls.{fits}
 use Rattle.waits.specs.declared.parts.Mismatch.{Mismatch}
 use Rattle.waits.specs.Misses.{holds_in, missed_between, missed_by}
 

@@ -6,7 +6,7 @@ use steal::Supply;
 
 /// Where a worker's cubes come from, and where they go.
 pub trait Cubes {
-    ghost use Rattle.steal.specs.Deques.{Deques};
+    ghost use Rattle.steal.specs.Supplies.{Deques};
 
     /// Which deques these are. No call changes that.
     ghost deques: { Self → Deques };
@@ -21,7 +21,7 @@ pub trait Cubes {
 }
 
 impl Cubes for Supply {
-    ghost use Rattle.steal.specs.Deques.{deques_of};
+    ghost use Rattle.steal.specs.Supplies.{deques_of};
 
     ghost deques = { deques_of };
 

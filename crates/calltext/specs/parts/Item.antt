@@ -1,8 +1,7 @@
 -- What one line is, and what is wrong with it in its place.
 use Rattle.std.specs.Prelude.{◌≡◌, ◌≢◌, ℕ, ◌<◌, ◌≤◌, List, ◌∷◌, length, ⊤}
 use Rattle.std.specs.Str.{IsAscii, IsNotAscii}
-use Rattle.plaintext.specs.TextLines.{text_lines}
-use Rattle.plaintext.specs.Plain.{line_of}
+use Rattle.plaintext.specs.Plain.{line_of, text_lines}
 use Rattle.calltext.specs.Grammar.{CallFits, HasNames, IsInRange, call_words, rank_words, ranks_words, policy_words}
 use Rattle.calltext.specs.RefusedWords.{refused_word, refused_words}
 use Rattle.calltext.specs.declared.call.CallLine.{CallLine}

@@ -3,7 +3,7 @@ use Rattle.std.specs.Prelude.{◌≡◌, ◌+◌, ◌<◌, ◌≤◌, ◌⊎◌,
 use Rattle.std.specs.List.{All, AllPairs, slice_index_or}
 use Rattle.std.specs.Option.{unwrap_or}
 use Rattle.callorder.specs.declared.calls.Call.{Call}
-use Rattle.calltext.specs.Limits.{long}
+use Rattle.calltext.specs.Grammar.{long}
 use Rattle.callorder.specs.ProgramRules.{IsProgramWithin}
 use Rattle.callorder.specs.Programs.{MpiProgram, call_at}
 use Rattle.scene.specs.declared.acts.Act.{Act}

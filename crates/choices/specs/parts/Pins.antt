@@ -1,6 +1,6 @@
 -- What inner functions promise one another, beside `specs/Pins.antt`.
 use Rattle.std.specs.Prelude.{◌≡◌, ℕ, ◌+◌, List, [], ◌∷◌, ◌++◌, length}
-use Rattle.plaintext.specs.TextLines.{text_lines}
+use Rattle.plaintext.specs.Plain.{text_lines}
 use Rattle.choices.specs.Pins.{concatenated_lines}
 
 -- the line of this number, from 1, without its LF; the lines before it are the front, and the lines

@@ -1,5 +1,5 @@
 -- What inner functions promise one another, beside `specs/Clocks.antt`.
-use Rattle.std.specs.Prelude.{◌≡◌, ℕ, zero, suc, ◌+◌, ◌<◌, ◌≤◌, ◌⊎◌, Bool, false, IsTrue, List, [], Option, Some, slice_get, slice_index}
+use Rattle.std.specs.Prelude.{◌≡◌, ℕ, zero, suc, ◌+◌, ◌<◌, ◌≤◌, ◌⊎◌, Bool, false, IsTrue, List, Option, Some, slice_get, slice_index, ◌&&◌, ◌||◌, None}
 use Rattle.std.specs.Global.{Vec}
 use Rattle.callorder.specs.declared.calls.Call.{Call}
 use Rattle.callorder.specs.Programs.{MpiProgram, call_at, are_fit, are_of_one_rank}
@@ -7,8 +7,12 @@ use Rattle.semantics.specs.Machine.{Configuration, is_issued, partner_of}
 use Rattle.std.specs.Option.{unwrap_or}
 use Rattle.races.specs.Blocks.{Blocks}
 use Rattle.clocks.specs.declared.rows.Count.{Count}
-use Rattle.races.specs.Tells.{Table, tells_issue}
+use Rattle.races.specs.Tells.{Table, tells_issue, knows_at, tells_find, tells_fetch, never_buffers}
 use Rattle.clocks.specs.Clocks.{IsNoRace, IsRival}
+use Rattle.calltext.specs.declared.call.Mode.{Mode}
+use Rattle.calltext.specs.declared.call.Mode.TheVariants.{Standard, Synchronous, Buffered}
+use Rattle.clocks.specs.declared.reads.DoneOperation.{DoneOperation}
+use Rattle.clocks.specs.declared.reads.Read.{Read}
 
 -- what is known after so many rounds of the rule, from nothing
 abbrev pub level : MpiProgram → Configuration → ℕ → Table
@@ -118,3 +122,25 @@ pub record IsTaken (block : Blocks) (e : Configuration) (send finder : ℕ) : Ty
 -- so, where the finder is a block of its own
 abbrev pub IsRivalIfSingle : MpiProgram → Blocks → Configuration → ℕ → ℕ → Type 0
 IsRivalIfSingle p block e send finder = IsSingle block finder → IsRival p e (record { send = send; finder = finder })
+
+-- whatever the first rule tells, by any table, the second one does
+abbrev pub Leads : (Table → ℕ → Bool) → (Table → ℕ → Bool) → Type 0
+Leads first second = (knows : Table) (f : ℕ) → IsTrue (first knows f) → IsTrue (second knows f)
+
+-- what the end of a send's operation tells
+abbrev pub tells_sent : MpiProgram → Configuration → Table → ℕ → Mode → ℕ → Bool
+tells_sent p e knows c Standard f = never_buffers p.policy && tells_fetch p e knows c f
+tells_sent p e knows c Synchronous f = tells_fetch p e knows c f
+tells_sent p e knows c Buffered f = false
+
+abbrev pub tells_find_at : Configuration → Table → Option ℕ → ℕ → Bool
+tells_find_at e knows None f = false
+tells_find_at e knows (Some t) f = tells_find e knows t f
+
+-- what it tells that a finder has found, and that the receive on its handle is issued
+abbrev pub tells_found : Configuration → Table → DoneOperation → ℕ → Bool
+tells_found e knows found f = tells_find_at e knows found.finder f || knows_at knows found.receive f
+
+-- what it tells besides that the call before is issued
+abbrev pub tells_read : Configuration → Table → Read → ℕ → Bool
+tells_read e knows read f = knows_at knows read.before f || tells_found e knows read.found f

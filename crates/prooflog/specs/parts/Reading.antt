@@ -1,8 +1,7 @@
 -- What inner functions promise one another, beside `specs/Reading.antt`.
 use Rattle.std.specs.Prelude.{codes, ◌≡◌, ◌≢◌, ◌↔◌, ℕ, ◌+◌, ◌≤◌, Bool, IsTrue, List, [], ◌∷◌, ◌++◌, length, map, drop, min, Option, Some, None, IfSome, slice_get, ◌==◌}
-use Rattle.std.specs.List.{slice_split, slice_range, AllByRecursion, list_all}
-use Rattle.plaintext.specs.TextLines.{text_lines}
-use Rattle.plaintext.specs.Plain.{numeral}
+use Rattle.std.specs.List.{slice_split, slice_range, AllByRecursion, list_all, flat_map}
+use Rattle.plaintext.specs.Plain.{numeral, text_lines}
 use Rattle.plaintext.specs.Fronts.{to_end, IsFirstFaultyLine}
 use Rattle.clauses.specs.Clauses.{Literal}
 use Rattle.refutations.specs.Proofs.{ProofLine}
@@ -19,10 +18,33 @@ use Rattle.prooflog.specs.declared.refutation.Version.{Version}
 use Rattle.prooflog.specs.declared.refutation.Version.TheVariants.{One}
 use Rattle.prooflog.specs.declared.step.WrittenStep.{WrittenStep}
 use Rattle.prooflog.specs.declared.step.WrittenStep.TheVariants.{Issue, Match, See}
-use Rattle.prooflog.specs.Refutations.{proof_words, is_line_in_range, item_line, a_proof, the_tree}
+use Rattle.prooflog.specs.Refutations.{proof_words, is_line_in_range, item_line, a_proof, the_tree, ClaimedRefutation, a_node}
 use Rattle.prooflog.specs.Steps.{schedule_line}
 use Rattle.prooflog.specs.Grammar.{heading_line, refutation_line}
 use Rattle.prooflog.specs.Fault.{CanGoOnAsEvidence, IsWhy}
+use Rattle.prooflog.specs.declared.portions.TextPart.{TextPart}
+use Rattle.prooflog.specs.declared.portions.Portions.{Portions}
+
+-- the two headings
+abbrev pub front_text : ClaimedRefutation → List ℕ
+front_text r = heading_line r.version ++ refutation_line r.variables r.clauses
+
+-- the text of proof lines
+abbrev pub lines_text : List ProofLine → List ℕ
+lines_text lines = flat_map item_line (map a_proof lines)
+
+-- the tree with its line
+abbrev pub tree_text : List Node → List ℕ
+tree_text nodes = flat_map item_line (the_tree ∷ map a_node nodes)
+
+-- the text of a portion of the proof lines: what is written of it, and then that of the lines that
+-- aren't
+abbrev pub portion_text : TextPart → List ℕ
+portion_text part = part.text.items ++ lines_text part.lines.items
+
+-- the lines of portions
+abbrev pub portions_lines : Portions → List ProofLine
+portions_lines portions = flat_map (λ portion. portion.items) portions.full.items ++ portions.last.items
 
 -- what stands between the spaces of a line
 abbrev pub words_of : List ℕ → List (List ℕ)

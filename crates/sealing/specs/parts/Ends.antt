@@ -10,8 +10,7 @@ use Rattle.knowledge.specs.Knowledge.{column_table, with_partners}
 use Rattle.sealing.specs.declared.loose.Loose.{Loose}
 use Rattle.sealing.specs.declared.finders.Finder.{Finder}
 use Rattle.sealing.specs.declared.ends.Findings.{Findings}
-use Rattle.sealing.specs.Sure.{HasSurePartners}
-use Rattle.sealing.specs.Loose.{IsLoose}
+use Rattle.sealing.specs.Sealing.{HasSurePartners, IsLoose}
 use Rattle.sealing.specs.parts.Sides.{HasAllSure}
 
 -- the call is the last one of the rank

@@ -2,7 +2,6 @@
 use Rattle.std.specs.Prelude.{◌≡◌, ℕ, List, Option, Some, Result, Ok, Err, IsTrue}
 use Rattle.deciding.specs.declared.decision.Decision.{Decision}
 use Rattle.deciding.specs.declared.decision.Decision.TheVariants as decisions
-use Rattle.deciding.specs.declared.decision.CallerRace.{CallerRace}
 use Rattle.deciding.specs.declared.texts.Undecided.{Undecided}
 use Rattle.prover.specs.declared.answer.Answer.{Answer}
 use Rattle.session.specs.declared.commands.Stop.{Stop}

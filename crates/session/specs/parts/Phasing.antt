@@ -1,7 +1,7 @@
 -- What inner functions promise one another, beside `specs/Phasing.antt`.
 use Rattle.std.specs.Prelude.{◌≡◌, ◌≢◌, ◌⊎◌, ℕ, ◌+◌, ◌<◌, Bool, List, ◌++◌, length, map, codes, Option, Some, slice_get, string_bytes}
 use Rattle.std.specs.List.{AllByRecursion}
-use Rattle.calltext.specs.Limits.{long}
+use Rattle.calltext.specs.Grammar.{long}
 use Rattle.semantics.specs.Headline.{IsNeverStuckWithin, IsStuckRunWithin}
 use Rattle.semantics.specs.declared.state.Step.{Step}
 use Rattle.cutting.specs.declared.whole.Phases.{Phases}

@@ -1,7 +1,6 @@
 -- What inner functions promise one another, beside `specs/Shrinking.antt`.
 use Rattle.std.specs.Prelude.{◌≡◌, ℕ, false, List}
 use Rattle.deciding.specs.Decisions.{IsUndecided}
-use Rattle.deciding.specs.declared.texts.Undecided.{Undecided}
 use Rattle.shrinking.specs.declared.halving.NotShrunkLong.{NotShrunkLong}
 use Rattle.shrinking.specs.declared.halving.NotShrunkLong.TheVariants as unshrunk
 use Rattle.session.specs.Explaining.{IsUndecidedPage}

@@ -10,7 +10,6 @@ use Rattle.sharedpool.specs.declared.room.View.{View}
 use Rattle.sharedpool.specs.parts.Leaves.{leavers}
 use Rattle.sharedpool.specs.parts.Views.{taker, sitting}
 use Rattle.sharedpool.specs.Views.{knower, items_of}
-use Rattle.sharedpool.specs.Seats.{told_call}
 
 abbrev pub Token : Type 0
 Token = Seat (List ℕ) (Doing (List ℕ) View)

@@ -3,9 +3,8 @@ use Rattle.std.specs.Prelude.{◌≡◌, ℕ, ◌+◌, List, [], ◌∷◌, ◌+
 use Rattle.std.specs.List.{AllByRecursion}
 use Rattle.std.specs.Global.{Vec}
 use Rattle.calltext.specs.declared.call.CallLine.{CallLine}
-use Rattle.calltext.specs.Grammar.{CallFits}
-use Rattle.calltext.specs.Limits.{long}
-use Rattle.calltext.specs.parts.Printed.{rank_text, ranks_text}
+use Rattle.calltext.specs.Grammar.{CallFits, long}
+use Rattle.calltext.specs.parts.Body.{rank_text, ranks_text}
 use Rattle.unroll.specs.declared.call.Placed.{Placed}
 use Rattle.spmd_program.specs.Lines.{lines_of_calls}
 

@@ -50,7 +50,7 @@ struct Late<'s> {
 }
 
 impl Cubes for Late<'_> {
-    ghost use Rattle.steal.specs.Deques.{deques_of};
+    ghost use Rattle.steal.specs.Supplies.{deques_of};
 
     ghost deques = { λ late. deques_of late.cubes };
 

@@ -1,5 +1,5 @@
 use Rattle.std.proofs.Common.{ℕ, ◌≤◌, subst, ◌∙◌}
-use Rattle.calltext.specs.Limits.{long}
+use Rattle.calltext.specs.Grammar.{long}
 use Rattle.callorder.proofs.Resolved.{first_found, none_found, made_is, made_is_program}
 use Rattle.callorder.proofs.resolve.resolve_expansion.Goals as goal
 

@@ -1,7 +1,7 @@
 use Rattle.std.proofs.lemmas.Grind.{common_steps}
 use Rattle.std.proofs.Common.{◌≡◌, ℕ, true, List, map, ◌++◌, ◌∷◌, [], rules, ap, sym, ◌∙◌, arith}
 use Rattle.std.specs.Str.{IsAscii}
-use Rattle.plaintext.specs.TextLines.{text_lines}
+use Rattle.plaintext.specs.Plain.{text_lines}
 use Rattle.plaintext.proofs.Cuts.{parts, line_is}
 use Rattle.calltext.specs.Grammar.{rank_words}
 use Rattle.calltext.specs.parts.Item.{IsFirstRankLine}

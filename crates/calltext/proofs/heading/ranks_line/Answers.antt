@@ -1,8 +1,7 @@
 use Rattle.std.proofs.lemmas.Grind.{common_steps}
 use Rattle.std.proofs.Common.{◌≡◌, ℕ, List, map, ◌++◌, ◌∷◌, [], arith, rules, ap, sym, ◌∙◌}
 use Rattle.std.specs.Str.{IsAscii}
-use Rattle.plaintext.specs.TextLines.{text_lines}
-use Rattle.plaintext.specs.Plain.{line_of}
+use Rattle.plaintext.specs.Plain.{line_of, text_lines}
 use Rattle.plaintext.proofs.Cuts.{parts, line_is}
 use Rattle.calltext.specs.Grammar.{ranks_words}
 use Rattle.calltext.specs.parts.Item.{IsRanksLine, AreRanksWithin}

@@ -3,7 +3,7 @@ use Rattle.std.proofs.lemmas.Grind.{common_steps}
 use Rattle.calltext.specs.Readable.{IsText}
 use Rattle.calltext.specs.Grammar.{text_of, ProgramText}
 use Rattle.calltext.specs.Body.{views}
-use Rattle.calltext.specs.parts.Printed.{heads, ranks_text}
+use Rattle.calltext.specs.parts.Body.{heads, ranks_text}
 use Rattle.calltext.proofs.PrintLaws.{text_is, one_more}
 use Rattle.calltext.proofs.printer.print.Goals as goal
 

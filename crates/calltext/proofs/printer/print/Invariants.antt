@@ -1,6 +1,6 @@
 use Rattle.std.proofs.Common.{◌≡◌, ◌++◌, length, take}
 use Rattle.calltext.specs.Body.{views}
-use Rattle.calltext.specs.parts.Printed.{heads, ranks_text}
+use Rattle.calltext.specs.parts.Body.{heads, ranks_text}
 use Rattle.calltext.proofs.printer.print.Given as goal
 
 abbrev pub invariant-loop-rank : goal.invariant-loop-rank

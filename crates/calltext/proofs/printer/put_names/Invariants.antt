@@ -1,5 +1,5 @@
 use Rattle.std.proofs.Common.{◌≡◌, ◌++◌, take}
-use Rattle.plaintext.specs.TextLines.{spaced}
+use Rattle.plaintext.specs.Plain.{spaced}
 use Rattle.calltext.proofs.printer.put_names.Given as goal
 
 abbrev pub invariant-loop-name : goal.invariant-loop-name

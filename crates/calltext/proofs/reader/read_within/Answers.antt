@@ -1,10 +1,9 @@
 use Rattle.std.proofs.Common.{◌≤◌, length, arith, sym, subst, rules}
 use Rattle.calltext.specs.Fault.{HasFaultWithin}
 use Rattle.calltext.specs.Body.{views}
-use Rattle.calltext.specs.Limits.{long}
 use Rattle.calltext.proofs.Exact.{text_wider}
 use Rattle.calltext.proofs.Faults.{first_heading, second_heading, third_heading, stopped, is_text, readable}
-use Rattle.calltext.specs.Grammar.{IsTextWithin}
+use Rattle.calltext.specs.Grammar.{IsTextWithin, long}
 use Rattle.calltext.proofs.reader.read_within.Goals as goal
 
 pub returns-in-Err-clause-fault : goal.returns-in-Err-clause-fault

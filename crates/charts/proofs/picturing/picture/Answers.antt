@@ -2,10 +2,9 @@ use Rattle.std.proofs.Common.{◌≡◌, ◌↔◌, IsTrue, ℕ, List, length, d
 use Rattle.semantics.specs.RunEnds.{IsFinished}
 use Rattle.semantics.specs.Machine.{Configuration, opening}
 use Rattle.scene.specs.declared.acts.Act.{Act}
-use Rattle.scene.specs.Acts.{acts_from}
-use Rattle.scene.specs.Labels.{Label, call_labels}
+use Rattle.scene.specs.Labels.{Label, call_labels, acts_from}
 use Rattle.charts.specs.Columns.{AreColumns, column_of}
-use Rattle.charts.specs.Cuts.{undrawn}
+use Rattle.charts.specs.Chart.{undrawn}
 use Rattle.charts.specs.Picture.{picture_at}
 use Rattle.charts.proofs.Ended.{run_of}
 use Rattle.charts.proofs.picturing.picture.Goals as goal

@@ -1,8 +1,7 @@
 use Rattle.std.proofs.Common.{◌≡◌, ℕ, ◌++◌, List, length, slice_index, ap, ◌∙◌}
 use Rattle.std.specs.List.{flat_map}
 use Rattle.charts.specs.declared.placing.PlacedAct.{PlacedAct}
-use Rattle.charts.specs.Chart.{columns}
-use Rattle.charts.specs.Cuts.{undrawn_text}
+use Rattle.charts.specs.Chart.{columns, undrawn_text}
 use Rattle.charts.specs.Picture.{arc_at, arrow_of, box_of, rank_row, top}
 use Rattle.charts.proofs.Parts.{seven_parts}
 use Rattle.charts.proofs.picturing.put_picture.Goals as goal

@@ -1,5 +1,5 @@
 use Rattle.std.proofs.Common.{rules, ◌≡◌, [], ◌∷◌, ◌++◌}
-use Rattle.choices.specs.Words.{line_with}
+use Rattle.choices.specs.Pins.{line_with}
 use Rattle.choices.proofs.Lines.{pinned_of}
 use Rattle.choices.proofs.pinning.with_choice.Goals as goal
 

@@ -1,6 +1,6 @@
 -- The words so far are told.
 use Rattle.std.proofs.Common.{◌≡◌, ◌++◌, map, take}
-use Rattle.choices.specs.Words.{told_words_from}
+use Rattle.choices.specs.Pins.{told_words_from}
 use Rattle.choices.proofs.wording.put_words.Given as goal
 
 abbrev pub invariant-loop-place : goal.invariant-loop-place

@@ -1,4 +1,4 @@
-use Rattle.calltext.specs.Limits.{long}
+use Rattle.calltext.specs.Grammar.{long}
 use Rattle.semantics.specs.Machine.{opening, after_all}
 use Rattle.races.proofs.OneWay.{named_sources_never_stick}
 use Rattle.races.proofs.Telling.{programs_are_in_order}

@@ -1,7 +1,6 @@
 use Rattle.std.proofs.Common.{ℕ, Option, sym, subst}
-use Rattle.clocks.specs.parts.Clocks.{AddsToRow}
+use Rattle.clocks.specs.parts.Clocks.{AddsToRow, tells_find_at}
 use Rattle.knowledge.specs.Knowledge.{with_partners}
-use Rattle.clocks.specs.parts.Reads.{tells_find_at}
 use Rattle.clocks.proofs.rows.add_find_at.Goals as goal
 
 pub returns-in-Some : goal.returns-in-Some

@@ -1,6 +1,6 @@
 use Rattle.std.proofs.Common.{ℕ}
 use Rattle.knowledge.specs.Knowledge.{with_partners}
-use Rattle.clocks.specs.parts.Reads.{tells_read}
+use Rattle.clocks.specs.parts.Clocks.{tells_read}
 use Rattle.clocks.proofs.Counts.{row_is_zeros}
 use Rattle.clocks.proofs.rows.row_from.Goals as goal
 

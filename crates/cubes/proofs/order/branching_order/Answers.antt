@@ -1,6 +1,6 @@
 use Rattle.std.proofs.Common.{◌≡◌, ℕ, List, map, ap, subst, sym, ◌∙◌}
 use Rattle.std.proofs.lemmas.Result.{IfOk-weaker}
-use Rattle.cubes.specs.Order.{IsBranchingOrder}
+use Rattle.cubes.specs.Cubes.{IsBranchingOrder}
 use Rattle.cubes.proofs.Orders.{order_made}
 use Rattle.cubes.proofs.order.branching_order.Goals as goal
 

@@ -1,6 +1,6 @@
 use Rattle.std.proofs.Common.{◌≡◌, map}
 use Rattle.std.specs.List.{range_with_len}
-use Rattle.cubes.specs.Order.{branching_rank_of}
+use Rattle.cubes.specs.Cubes.{branching_rank_of}
 use Rattle.cubes.proofs.order.ranks.Given as goal
 
 abbrev pub invariant-loop-number : goal.invariant-loop-number

@@ -1,6 +1,6 @@
 use Rattle.std.proofs.Common.{◌≡◌, map}
 use Rattle.std.proofs.lemmas.Result.{IfOk-weaker}
-use Rattle.cubes.specs.Order.{match_variable, AreBranchingVariables}
+use Rattle.cubes.specs.Cubes.{match_variable, AreBranchingVariables}
 use Rattle.cubes.proofs.CubeTrees.{matching_order_there, branching_variables_are}
 use Rattle.cubes.proofs.splitting.branching_variables_in.Goals as goal
 

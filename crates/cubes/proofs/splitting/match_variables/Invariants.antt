@@ -1,5 +1,5 @@
 use Rattle.std.proofs.Common.{◌≡◌, map, take}
-use Rattle.cubes.specs.Order.{match_variable}
+use Rattle.cubes.specs.Cubes.{match_variable}
 use Rattle.cubes.proofs.splitting.match_variables.Given as goal
 
 abbrev pub invariant-loop-number : goal.invariant-loop-number

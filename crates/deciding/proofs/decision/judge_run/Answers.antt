@@ -1,5 +1,5 @@
 use Rattle.std.proofs.Common.{sym, subst}
-use Rattle.calltext.specs.Limits.{long}
+use Rattle.calltext.specs.Grammar.{long}
 use Rattle.semantics.specs.RunEnds.{IsFinished, IsFinishedRun}
 use Rattle.races.specs.Races.{BuffersNoneByChoice}
 use Rattle.races.proofs.Kept.{Kept}

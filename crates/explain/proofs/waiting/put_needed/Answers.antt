@@ -9,7 +9,7 @@ use Rattle.semantics.specs.Machine.{Configuration}
 use Rattle.waits.specs.Cycles.{HasEdge, awaited_by}
 use Rattle.waits.specs.Waiting.{WaitsFor, operation_of_call}
 use Rattle.scene.specs.Labels.{Label}
-use Rattle.scene.specs.Needs.{IsNeeded}
+use Rattle.scene.specs.Ends.{IsNeeded}
 use Rattle.explain.specs.Messages.{NamesNeeded, need_words}
 use Rattle.explain.proofs.waiting.put_needed.Goals as goal
 

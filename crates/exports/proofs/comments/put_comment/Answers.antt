@@ -1,7 +1,6 @@
 use Rattle.std.proofs.Common.{ℕ, List, [], ◌∷◌, ◌++◌, ap, ◌∙◌}
 use Rattle.std.specs.Prelude.{codes}
-use Rattle.plaintext.specs.TextLines.{spaced}
-use Rattle.plaintext.specs.Plain.{numeral}
+use Rattle.plaintext.specs.Plain.{numeral, spaced}
 use Rattle.exports.specs.Dimacs.{meaning_words}
 use Rattle.exports.proofs.Texts.{line_end, more_words}
 use Rattle.exports.proofs.comments.put_comment.Goals as goal

@@ -1,6 +1,5 @@
 use Rattle.std.proofs.Common.{◌++◌, ◌∙◌, map, ap}
-use Rattle.plaintext.specs.TextLines.{spaced}
-use Rattle.plaintext.specs.Plain.{numeral}
+use Rattle.plaintext.specs.Plain.{numeral, spaced}
 use Rattle.prooflog.specs.Refutations.{literal_word}
 use Rattle.exports.proofs.LratTexts.{line_text}
 use Rattle.exports.proofs.lrat.put_line.Goals as goal

@@ -2,7 +2,7 @@ use Rattle.std.proofs.Common.{◌++◌, length, sym, subst}
 use Rattle.std.specs.List.{flat_map}
 use Rattle.formula.specs.Families.{events}
 use Rattle.formula.specs.Orders.{places_in}
-use Rattle.formula_families.specs.parts.Marks.{AreMarks}
+use Rattle.formula_families.specs.parts.Blocks.{AreMarks}
 use Rattle.formula_families.proofs.used.mark_block.Goals as goal
 
 pub returns : goal.returns

@@ -3,7 +3,7 @@ use Rattle.std.specs.List.{flat_map}
 use Rattle.std.proofs.lemmas.List.{take_all}
 use Rattle.formula.specs.Families.{events}
 use Rattle.formula.specs.Orders.{places_in}
-use Rattle.formula_families.specs.parts.Marks.{AreMarks}
+use Rattle.formula_families.specs.parts.Blocks.{AreMarks}
 use Rattle.formula_families.proofs.Marking.{marks_step}
 use Rattle.formula_families.proofs.used.mark_clauses.Goals as goal
 

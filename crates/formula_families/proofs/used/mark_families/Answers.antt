@@ -2,7 +2,7 @@ use Rattle.std.proofs.Common.{◌++◌, length, refl, subst}
 use Rattle.std.specs.List.{flat_map}
 use Rattle.std.proofs.lemmas.List.{take_all}
 use Rattle.formula.specs.Families.{events}
-use Rattle.formula_families.specs.parts.Marks.{AreMarks, orders_of_family}
+use Rattle.formula_families.specs.parts.Blocks.{AreMarks, orders_of_family}
 use Rattle.formula_families.proofs.Marking.{marks_step}
 use Rattle.formula_families.proofs.used.mark_families.Goals as goal
 

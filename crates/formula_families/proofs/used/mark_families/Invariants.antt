@@ -1,7 +1,7 @@
 use Rattle.std.proofs.Common.{ℕ, ◌++◌, List, length, take}
 use Rattle.std.specs.List.{flat_map}
 use Rattle.formula.specs.Families.{events}
-use Rattle.formula_families.specs.parts.Marks.{AreMarks, orders_of_family}
+use Rattle.formula_families.specs.parts.Blocks.{AreMarks, orders_of_family}
 use Rattle.formula_families.proofs.used.mark_families.Given as goal
 
 abbrev pub invariant-loop-family : goal.invariant-loop-family

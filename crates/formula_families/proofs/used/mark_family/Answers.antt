@@ -2,9 +2,8 @@ use Rattle.std.proofs.Common.{◌++◌, [], ◌<◌, if◌then◌else◌, length
 use Rattle.std.specs.List.{flat_map}
 use Rattle.std.proofs.lemmas.List.{take_all, append-nil}
 use Rattle.formula.specs.Families.{events}
-use Rattle.formula_families.specs.parts.Blocks.{block, blocks_of}
+use Rattle.formula_families.specs.parts.Blocks.{block, blocks_of, AreMarks, orders_of}
 use Rattle.formula_families.specs.Blocks.{size_of}
-use Rattle.formula_families.specs.parts.Marks.{AreMarks, orders_of}
 use Rattle.formula_families.proofs.FamilyBlocks.{block_at, blocks_count}
 use Rattle.formula_families.proofs.Marking.{marks_step}
 use Rattle.formula_families.proofs.used.mark_family.Goals as goal

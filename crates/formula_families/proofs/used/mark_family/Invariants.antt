@@ -1,8 +1,7 @@
 use Rattle.std.proofs.Common.{ℕ, ◌++◌, List, length, take}
 use Rattle.std.specs.List.{flat_map}
 use Rattle.formula.specs.Families.{events}
-use Rattle.formula_families.specs.parts.Blocks.{blocks_of}
-use Rattle.formula_families.specs.parts.Marks.{AreMarks, orders_of}
+use Rattle.formula_families.specs.parts.Blocks.{blocks_of, AreMarks, orders_of}
 use Rattle.formula_families.proofs.used.mark_family.Given as goal
 
 abbrev pub invariant-loop-place : goal.invariant-loop-place

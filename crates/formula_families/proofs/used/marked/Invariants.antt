@@ -1,7 +1,7 @@
 use Rattle.std.proofs.Common.{◌≡◌, ℕ, List, map}
 use Rattle.std.specs.List.{filter, flat_map, range_with_len}
 use Rattle.formula.specs.Orders.{between, is_among}
-use Rattle.formula_families.specs.parts.Marks.{AreMarks}
+use Rattle.formula_families.specs.parts.Blocks.{AreMarks}
 use Rattle.formula_families.proofs.used.marked.Given as goal
 
 abbrev pub invariant-loop-first : goal.invariant-loop-first

@@ -3,7 +3,7 @@ use Rattle.std.specs.List.{filter, flat_map}
 use Rattle.std.proofs.lemmas.List.Concat.{flat_map-append}
 use Rattle.formula.specs.Families.{events, first_families, last_families}
 use Rattle.formula.specs.Orders.{event_pairs, is_among}
-use Rattle.formula_families.specs.parts.Marks.{AreMarks, orders_of_family}
+use Rattle.formula_families.specs.parts.Blocks.{AreMarks, orders_of_family}
 use Rattle.formula_families.proofs.FamilyBlocks.{stated_by_families}
 use Rattle.formula_families.proofs.used.marked_by.Goals as goal
 

@@ -1,7 +1,7 @@
 use Rattle.std.proofs.Common.{◌≡◌, ℕ, ◌+◌, ◌-◌, ◌++◌, List, map}
 use Rattle.std.specs.List.{filter, range_with_len}
 use Rattle.formula.specs.Orders.{is_among}
-use Rattle.formula_families.specs.parts.Marks.{AreMarks}
+use Rattle.formula_families.specs.parts.Blocks.{AreMarks}
 use Rattle.formula_families.proofs.used.push_row.Given as goal
 
 abbrev pub invariant-loop-second : goal.invariant-loop-second

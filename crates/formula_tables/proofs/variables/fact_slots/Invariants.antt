@@ -1,5 +1,5 @@
 use Rattle.std.proofs.Common.{◌≡◌, map, take}
-use Rattle.formula_tables.specs.Slots.{fact_slot}
+use Rattle.formula_tables.specs.Numbers.{fact_slot}
 use Rattle.formula_tables.proofs.variables.fact_slots.Given as goal
 
 abbrev pub invariant-loop-fact : goal.invariant-loop-fact

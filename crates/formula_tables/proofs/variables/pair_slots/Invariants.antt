@@ -1,5 +1,5 @@
 use Rattle.std.proofs.Common.{◌≡◌, map, take}
-use Rattle.formula_tables.specs.Slots.{pair_slot}
+use Rattle.formula_tables.specs.Numbers.{pair_slot}
 use Rattle.formula_tables.proofs.variables.pair_slots.Given as goal
 
 abbrev pub invariant-loop-pair : goal.invariant-loop-pair

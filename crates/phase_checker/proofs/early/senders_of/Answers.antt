@@ -3,7 +3,7 @@ use Rattle.std.specs.List.{list_any}
 use Rattle.std.proofs.lemmas.Option.{slice_get_read}
 use Rattle.callorder.specs.declared.calls.Call.{Call}
 use Rattle.phase_checker.specs.declared.senders.Senders.{Senders}
-use Rattle.phase_checker.specs.parts.Senders.{is_sent, IsRaisedToPlace}
+use Rattle.phase_checker.specs.parts.Early.{is_sent, IsRaisedToPlace}
 use Rattle.phase_checker.proofs.Tables.{IsSendersTo, read_at, senders_done, senders_more, senders_passed}
 use Rattle.phase_checker.proofs.early.senders_of.Goals as goal
 use Rattle.phase_checker.proofs.early.senders_of.Goals.{in-Some+in_ok-put_calls, in_default}

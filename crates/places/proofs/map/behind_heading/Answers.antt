@@ -1,7 +1,7 @@
 -- The first line that may not stand there is the first or the second.
 use Rattle.std.proofs.Common.{◌≡◌, ◌∙◌, ◌++◌, ◌∷◌, [], ℕ, List, ap, refl, subst, sym, arith, codes}
 use Rattle.std.proofs.lemmas.List.{append_cancel_right}
-use Rattle.plaintext.specs.TextLines.{text_lines}
+use Rattle.plaintext.specs.Plain.{text_lines}
 use Rattle.plaintext.proofs.Cuts.{no_line_of}
 use Rattle.places.specs.Maps.{StartsWith, map_heading}
 use Rattle.places.proofs.Faults.{false_true, first_faulty, second_faulty}

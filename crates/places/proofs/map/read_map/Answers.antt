@@ -1,7 +1,7 @@
 use Rattle.std.proofs.Common.{rules, ◌+◌, Option, ◌≡◌, ◌∙◌, ◌++◌, ◌∷◌, [], ℕ, List, true, false, ◌==◌, ap, refl, sym, arith, codes, length}
 use Rattle.std.specs.Prelude.{slice_get}
 use Rattle.places.specs.declared.entries.MapEntry.{MapEntry}
-use Rattle.plaintext.specs.TextLines.{text_lines}
+use Rattle.plaintext.specs.Plain.{text_lines}
 use Rattle.places.proofs.Faults.{false_true}
 use Rattle.places.proofs.Mapping.{none_there}
 use Rattle.places.proofs.Reading.{end_faulty, left_faulty, read_more, read_none, read_whole}

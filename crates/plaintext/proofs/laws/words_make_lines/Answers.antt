@@ -1,8 +1,7 @@
 use Rattle.std.proofs.Common.{◌≡◌, ℕ, List, [], ◌∷◌, ◌++◌, map, refl, sym, ap, ◌∙◌}
 use Rattle.std.specs.List.{AllByRecursion, flat_map}
 use Rattle.std.proofs.lemmas.List.Concat.{flat_map-cons}
-use Rattle.plaintext.specs.TextLines.{IsPlain, text_lines}
-use Rattle.plaintext.specs.Plain.{line_of}
+use Rattle.plaintext.specs.Plain.{line_of, IsPlain, text_lines}
 use Rattle.plaintext.proofs.Texts.{IsLine, is_line, lines_joined}
 use Rattle.plaintext.proofs.laws.words_make_lines.Goals as goal
 

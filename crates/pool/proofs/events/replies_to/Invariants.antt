@@ -1,5 +1,5 @@
 use Rattle.std.proofs.Common.{take}
-use Rattle.pool.specs.Runs.{AreAnswered}
+use Rattle.pool.specs.Laws.{AreAnswered}
 use Rattle.pool.proofs.events.replies_to.Given as goal
 
 abbrev pub invariant-loop-event : goal.invariant-loop-event

@@ -1,5 +1,5 @@
 use Rattle.std.proofs.Common.{ℕ, List, ◌++◌, [], ◌∷◌, map, ap, ◌∙◌}
-use Rattle.plaintext.specs.TextLines.{spaced}
+use Rattle.plaintext.specs.Plain.{spaced}
 use Rattle.prooflog.specs.Refutations.{literal_word}
 use Rattle.prooflog.proofs.FormulaTexts.{clause_text}
 use Rattle.prooflog.proofs.formula_text.put_clause.Goals as goal

@@ -1,6 +1,6 @@
 use Rattle.std.proofs.Common.{◌≡◌, ◌++◌}
 use Rattle.std.specs.Vec.Iter.{into_iter_items}
-use Rattle.prooflog.specs.parts.Portions.{portions_lines}
+use Rattle.prooflog.specs.parts.Reading.{portions_lines}
 use Rattle.prooflog.proofs.portions.portions_of.Given as goal
 
 abbrev pub invariant-loop-line : goal.invariant-loop-line

@@ -1,7 +1,7 @@
 use Rattle.std.proofs.Common.{◌≡◌, ◌++◌}
 use Rattle.std.specs.List.{flat_map}
 use Rattle.std.specs.Vec.Iter.{into_iter_items}
-use Rattle.prooflog.specs.parts.Portions.{portion_text}
+use Rattle.prooflog.specs.parts.Reading.{portion_text}
 use Rattle.prooflog.proofs.portions.put_parts.Given as goal
 
 abbrev pub invariant-loop-part : goal.invariant-loop-part

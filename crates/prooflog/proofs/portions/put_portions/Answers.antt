@@ -1,7 +1,7 @@
 use Rattle.std.proofs.Common.{◌≡◌, ℕ, List, ◌++◌, subst, sym, ap, ◌∙◌}
 use Rattle.std.specs.Result.{OnOk}
 use Rattle.std.specs.List.{flat_map}
-use Rattle.prooflog.specs.parts.Portions.{lines_text, portion_text}
+use Rattle.prooflog.specs.parts.Reading.{lines_text, portion_text}
 use Rattle.prooflog.proofs.PortionTexts.{portions_text}
 use Rattle.prooflog.proofs.portions.put_portions.Goals as goal
 

@@ -1,6 +1,6 @@
 use Rattle.std.proofs.Common.{◌≡◌, ◌+◌, ◌<◌, ◌≤◌, [], ◌∷◌, ◌++◌, length, arith, ap, sym, subst, ◌∙◌, rules}
 use Rattle.std.proofs.lemmas.Grind.{common_steps}
-use Rattle.plaintext.specs.TextLines.{text_lines}
+use Rattle.plaintext.specs.Plain.{text_lines}
 use Rattle.prooflog.specs.Steps.{written, step_line, IsStepInRange}
 use Rattle.prooflog.proofs.StepLines.{no_step_line, step_line_of, over_range, read_step}
 use Rattle.prooflog.proofs.Schedules.{SoFar, one_more, stop_syntax, stop_range, stop_large, unended}

@@ -1,6 +1,6 @@
 use Rattle.std.proofs.Common.{◌+◌, ◌<◌, ◌≤◌, [], ◌∷◌, ◌++◌, length, arith, sym, subst}
 use Rattle.std.proofs.lemmas.Grind.{common_steps}
-use Rattle.plaintext.specs.TextLines.{text_lines}
+use Rattle.plaintext.specs.Plain.{text_lines}
 use Rattle.prooflog.specs.parts.Reading.{words_of, IsUnread, LinesSoFar}
 use Rattle.prooflog.proofs.ProofLines.{one_more_line, lines_stop_syntax, lines_stop_range, lines_stop_large, lines_unended, no_proof_line, proof_line_is, no_tree_line}
 use Rattle.prooflog.proofs.refutation_reader.read_lines.Goals as goal

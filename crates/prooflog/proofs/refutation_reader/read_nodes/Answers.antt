@@ -1,7 +1,7 @@
 use Rattle.std.proofs.Common.{◌≡◌, ◌+◌, ◌<◌, ◌≤◌, [], ◌∷◌, ◌++◌, length, true, arith, ap, sym, subst, ◌∙◌, inl, inr, ◌⊎◌}
 use Rattle.std.proofs.lemmas.Grind.{common_steps}
 use Rattle.std.proofs.lemmas.List.{length-append}
-use Rattle.plaintext.specs.TextLines.{text_lines}
+use Rattle.plaintext.specs.Plain.{text_lines}
 use Rattle.refutations.specs.Proofs.{is_proof_number, number_of}
 use Rattle.prooflog.specs.Refutations.{item_line, a_node}
 use Rattle.prooflog.proofs.Nodes.{NodesSoFar, one_more_node, nodes_stop_syntax, nodes_stop_after, nodes_stop_range, nodes_stop_large, nodes_unended, nodes_whole, no_node_line, node_line_of, read_node, over_node, first_line}

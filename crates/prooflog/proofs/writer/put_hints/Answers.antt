@@ -1,6 +1,5 @@
 use Rattle.std.proofs.Common.{ℕ, List, ◌++◌, [], ◌∷◌, get_or, ap, ◌∙◌}
-use Rattle.plaintext.specs.Plain.{numeral}
-use Rattle.plaintext.specs.TextLines.{spaced}
+use Rattle.plaintext.specs.Plain.{numeral, spaced}
 use Rattle.prooflog.proofs.Writings.{one_spaced, space_word}
 use Rattle.prooflog.proofs.writer.put_hints.Goals as goal
 

@@ -1,6 +1,5 @@
 use Rattle.std.proofs.Common.{◌≡◌, ◌++◌, take, map}
-use Rattle.plaintext.specs.Plain.{numeral}
-use Rattle.plaintext.specs.TextLines.{spaced}
+use Rattle.plaintext.specs.Plain.{numeral, spaced}
 use Rattle.prooflog.proofs.writer.put_hints.Given as goal
 
 abbrev pub invariant-loop-hint : goal.invariant-loop-hint

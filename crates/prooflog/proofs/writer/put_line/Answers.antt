@@ -1,8 +1,7 @@
 use Rattle.std.proofs.Common.{ℕ, List, ◌++◌, [], ◌∷◌, map, ap, ◌∙◌}
 use Rattle.std.specs.Prelude.{codes}
-use Rattle.plaintext.specs.Plain.{numeral}
+use Rattle.plaintext.specs.Plain.{numeral, spaced}
 use Rattle.prooflog.specs.Refutations.{literal_word}
-use Rattle.plaintext.specs.TextLines.{spaced}
 use Rattle.prooflog.proofs.Writings.{proof_text}
 use Rattle.prooflog.proofs.writer.put_line.Goals as goal
 

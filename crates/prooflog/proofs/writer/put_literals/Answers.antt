@@ -1,6 +1,6 @@
 use Rattle.std.proofs.Common.{◌++◌, [], ◌∷◌, ◌∙◌}
 use Rattle.prooflog.specs.Refutations.{literal_word}
-use Rattle.plaintext.specs.TextLines.{spaced}
+use Rattle.plaintext.specs.Plain.{spaced}
 use Rattle.prooflog.proofs.Writings.{one_spaced}
 use Rattle.prooflog.proofs.writer.put_literals.Goals as goal
 

@@ -1,6 +1,6 @@
 use Rattle.std.proofs.Common.{◌≡◌, ◌++◌, take, map}
 use Rattle.prooflog.specs.Refutations.{literal_word}
-use Rattle.plaintext.specs.TextLines.{spaced}
+use Rattle.plaintext.specs.Plain.{spaced}
 use Rattle.prooflog.proofs.writer.put_literals.Given as goal
 
 abbrev pub invariant-loop-literal : goal.invariant-loop-literal

@@ -1,5 +1,5 @@
 use Rattle.std.proofs.Common.{ℕ, List, ◌++◌, ap, ◌∙◌}
-use Rattle.prooflog.specs.parts.Portions.{front_text, lines_text, tree_text}
+use Rattle.prooflog.specs.parts.Reading.{front_text, lines_text, tree_text}
 use Rattle.prooflog.proofs.Writings.{refutation_text}
 use Rattle.prooflog.proofs.writer.write_refutation.Goals as goal
 

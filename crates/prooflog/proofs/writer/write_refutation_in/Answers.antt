@@ -1,6 +1,6 @@
 use Rattle.std.proofs.Common.{ℕ, List, ◌++◌, subst, ap, ◌∙◌}
 use Rattle.prooflog.specs.Refutations.{IsRefutation}
-use Rattle.prooflog.specs.parts.Portions.{front_text, lines_text, tree_text}
+use Rattle.prooflog.specs.parts.Reading.{front_text, lines_text, tree_text}
 use Rattle.prooflog.proofs.Writings.{refutation_text}
 use Rattle.prooflog.proofs.writer.write_refutation_in.Goals as goal
 

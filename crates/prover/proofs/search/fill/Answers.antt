@@ -1,6 +1,6 @@
 use Rattle.std.proofs.Common.{◌%◌, ◌∙◌, length}
 use Rattle.std.proofs.Math.Seq.{map-set_same}
-use Rattle.steal.specs.Deques.{deques_of}
+use Rattle.steal.specs.Supplies.{deques_of}
 use Rattle.steal.proofs.Deques.{same_deques}
 use Rattle.prover.proofs.search.fill.Goals as goal
 

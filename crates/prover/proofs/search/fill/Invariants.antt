@@ -1,5 +1,5 @@
 use Rattle.std.proofs.Common.{◌≡◌, map}
-use Rattle.steal.specs.Deques.{deques_of}
+use Rattle.steal.specs.Supplies.{deques_of}
 use Rattle.prover.proofs.search.fill.Given as goal
 
 abbrev pub invariant-loop-place : goal.invariant-loop-place

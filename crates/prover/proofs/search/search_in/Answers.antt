@@ -1,5 +1,5 @@
 use Rattle.std.proofs.Common.{◌∙◌, ap, map, subst, sym}
-use Rattle.steal.specs.Deques.{AreDealt, deques_of}
+use Rattle.steal.specs.Supplies.{AreDealt, deques_of}
 use Rattle.prover.proofs.Stations.{written_back}
 use Rattle.prover.proofs.search.search_in.Goals as goal
 

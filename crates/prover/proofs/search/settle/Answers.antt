@@ -1,6 +1,6 @@
 use Rattle.std.proofs.Common.{◌≡◌, ◌∙◌, map, subst, sym, ap}
 use Rattle.std.proofs.lemmas.Simd.{map-map}
-use Rattle.steal.specs.Deques.{AreDealt, deques_of}
+use Rattle.steal.specs.Supplies.{AreDealt, deques_of}
 use Rattle.steal.proofs.Deques.{dealt_supplies}
 use Rattle.prover.proofs.Stations.{is_whole}
 use Rattle.prover.proofs.search.settle.Goals as goal

@@ -1,7 +1,7 @@
 use Rattle.std.proofs.Common.{◌∙◌, map, subst, sym, ap}
 use Rattle.std.proofs.lemmas.Result.{IfOk-weaker}
 use Rattle.std.proofs.lemmas.Simd.{map-map}
-use Rattle.steal.specs.Deques.{AreDealt, deques_of}
+use Rattle.steal.specs.Supplies.{AreDealt, deques_of}
 use Rattle.steal.proofs.Deques.{dealt_deques}
 use Rattle.prover.proofs.Stations.{written_back}
 use Rattle.prover.proofs.search.stations.Goals as goal

@@ -1,5 +1,5 @@
 use Rattle.std.proofs.Common.{◌∙◌, sym, ap}
-use Rattle.steal.specs.Deques.{deques_of}
+use Rattle.steal.specs.Supplies.{deques_of}
 use Rattle.prover.proofs.Stations.{same_map}
 use Rattle.prover.proofs.search.work_all.Goals as goal
 

@@ -1,6 +1,6 @@
 -- The run is one of the program that was read.
 use Rattle.std.proofs.Common.{subst}
-use Rattle.calltext.specs.Limits.{long}
+use Rattle.calltext.specs.Grammar.{long}
 use Rattle.callorder.specs.Programs.{MpiProgram}
 use Rattle.callorder.proofs.FirstFaults.{one_program_of_bytes_within}
 use Rattle.semantics.specs.Machine.{IsStuckRun}

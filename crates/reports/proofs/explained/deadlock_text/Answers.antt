@@ -1,8 +1,7 @@
 -- The text draws what the checker handed out.
 use Rattle.std.proofs.Common.{IfOk, List, subst, sym}
-use Rattle.calltext.specs.Limits.{long}
 use Rattle.callorder.specs.Resolving.{IsTextOfWithin}
-use Rattle.calltext.specs.Grammar.{ProgramText}
+use Rattle.calltext.specs.Grammar.{ProgramText, long}
 use Rattle.callorder.specs.Programs.{MpiProgram}
 use Rattle.semantics.specs.declared.state.Step.{Step}
 use Rattle.reports.specs.Explanations.{IsDrawnFrom}

@@ -6,7 +6,7 @@ use Rattle.calltext.specs.Grammar.{ProgramText}
 use Rattle.callorder.specs.Programs.{MpiProgram}
 use Rattle.semantics.specs.declared.state.Step.{Step}
 use Rattle.charts.specs.Lining.{lined_run}
-use Rattle.reports.specs.Replays.{TellsRun}
+use Rattle.reports.specs.Telling.{TellsRun}
 use Rattle.reports.proofs.steps.text_of.Goals as goal
 
 told_lined : (r : Result (Vec ℕ) AllocError) (lines : Bool) (text : List ℕ) (source : ProgramText) (p : MpiProgram) (steps : List Step) → lines ≡ true → IsText text source

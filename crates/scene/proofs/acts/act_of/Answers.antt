@@ -2,7 +2,7 @@ use Rattle.std.proofs.Common.{ℕ, Option, sym, ap, ◌∙◌}
 use Rattle.std.specs.Option.{unwrap_or}
 use Rattle.std.proofs.lemmas.Option.{unwrap_or-slice_get}
 use Rattle.scene.specs.declared.acts.Act.TheVariants as act
-use Rattle.scene.specs.Acts.{act_of}
+use Rattle.scene.specs.Labels.{act_of}
 use Rattle.scene.proofs.acts.act_of.Goals as goal
 
 pub returns-in-Issue : goal.returns-in-Issue

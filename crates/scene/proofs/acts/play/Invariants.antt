@@ -1,6 +1,6 @@
 use Rattle.std.proofs.Common.{◌≡◌, take}
 use Rattle.semantics.specs.Machine.{opening}
-use Rattle.scene.specs.Acts.{acts_from}
+use Rattle.scene.specs.Labels.{acts_from}
 use Rattle.scene.proofs.Replayed.{HasTaken}
 use Rattle.scene.proofs.acts.play.Given as goal
 

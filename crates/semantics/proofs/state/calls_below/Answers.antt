@@ -4,7 +4,7 @@ use Rattle.std.specs.List.{count_by}
 use Rattle.std.specs.List.Sorted.{IsPartitionedBy}
 use Rattle.callorder.specs.declared.calls.Call.{Call}
 use Rattle.semantics.proofs.Firsts.{ranks_part, count_at}
-use Rattle.calltext.specs.Limits.{long}
+use Rattle.calltext.specs.Grammar.{long}
 use Rattle.semantics.proofs.state.calls_below.Goals as goal
 
 pub returns : goal.returns

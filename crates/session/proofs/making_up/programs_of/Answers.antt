@@ -1,6 +1,6 @@
 use Rattle.std.proofs.Common.{◌∙◌, Some, ap, sym, subst, ℕ, List}
 use Rattle.std.proofs.lemmas.Option.{slice_get-get_or}
-use Rattle.calltext.specs.Limits.{long}
+use Rattle.calltext.specs.Grammar.{long}
 use Rattle.callorder.specs.Resolving.{IsTextOfWithin}
 use Rattle.session.proofs.MadeUp.{all_programs, one_program_more}
 use Rattle.session.proofs.making_up.programs_of.Goals as goal

@@ -3,7 +3,7 @@ use Rattle.std.specs.Prelude.{IfSome}
 use Rattle.refutations.specs.declared.batch.BatchLine.{BatchLine}
 use Rattle.pool.specs.Moves.{are_earlier, number_after}
 use Rattle.pool.specs.Replies.{resolved_lines, DeriveAfter}
-use Rattle.sharedpool.specs.Told.{IsDerivedFrom}
+use Rattle.sharedpool.specs.Seats.{IsDerivedFrom}
 use Rattle.sharedpool.proofs.Told.{both_some}
 use Rattle.sharedpool.proofs.seat.derived_from.Goals as goal
 

@@ -1,5 +1,5 @@
 use Rattle.std.proofs.Common.{◌≡◌, ◌++◌, List, ℕ, ap, ◌∙◌}
-use Rattle.plaintext.specs.TextLines.{spaced}
+use Rattle.plaintext.specs.Plain.{spaced}
 use Rattle.calltext.specs.declared.call.CallLine.{CallLine}
 use Rattle.calltext.specs.parts.Verbs.{name_words, number_words}
 use Rattle.calltext.specs.Verbs.{verb_of, verb_word}

@@ -1,5 +1,5 @@
 use Rattle.std.proofs.Common.{◌≡◌, ◌++◌, ℕ, List, ap, subst, ◌∙◌, arith}
-use Rattle.calltext.specs.parts.Printed.{heads}
+use Rattle.calltext.specs.parts.Body.{heads}
 use Rattle.spmd_program.specs.Programs.{policy_of_buffering}
 use Rattle.spmd_program.proofs.RankTexts.{AreRanksBegun, all_ranks_begun, no_rank_begun, one_rank_begun}
 use Rattle.spmd_program.proofs.program.program_text.Goals as goal

@@ -1,5 +1,5 @@
 use Rattle.std.proofs.Common.{subst}
-use Rattle.calltext.specs.Limits.{long}
+use Rattle.calltext.specs.Grammar.{long}
 use Rattle.callorder.specs.FirstFaults.{IsFirstCallFault, IsFirstFaultWithin}
 use Rattle.callorder.specs.declared.fault.ResolveFault.{ResolveFault}
 use Rattle.spmd_program.proofs.Orders.{right, wrong}

@@ -1,6 +1,6 @@
 use Rattle.std.proofs.Common.{arith}
 use Rattle.std.proofs.lemmas.Bool.{both_ways}
-use Rattle.calltext.specs.Limits.{long}
+use Rattle.calltext.specs.Grammar.{long}
 use Rattle.waits.proofs.NeededRanks.{HasMissing-push, HasMissing-past, HasMissing-all}
 use Rattle.waits.proofs.waiting.all_missing.Goals as goal
 use Rattle.waits.proofs.waiting.all_missing.Goals.{then-is_missing+in_ok-push, else-is_missing}

@@ -1,5 +1,5 @@
 use Rattle.std.proofs.Common.{◌≡◌, arith}
-use Rattle.calltext.specs.Limits.{long}
+use Rattle.calltext.specs.Grammar.{long}
 use Rattle.waits.proofs.WaitingGraphs.{HasEdges-none, HasEdges-push, HasEdges-all, HasEdges-rising}
 use Rattle.waits.proofs.waiting.edges.Goals as goal
 

@@ -1,5 +1,5 @@
 use Rattle.std.proofs.Common.{rules, ◌<◌, length, get_or, refl, sym, ◌∙◌, ap, arith}
-use Rattle.calltext.specs.Limits.{long}
+use Rattle.calltext.specs.Grammar.{long}
 use Rattle.waits.proofs.StuckRanks.{next_is}
 use Rattle.waits.proofs.NeededRanks.{found_missing, none_missing, later_ranks, past_all, there_at}
 use Rattle.waits.proofs.waiting.is_missing.Goals as goal

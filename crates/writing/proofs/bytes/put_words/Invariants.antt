@@ -1,5 +1,5 @@
 use Rattle.std.proofs.Common.{◌≡◌, ◌++◌, map, take}
-use Rattle.plaintext.specs.TextLines.{spaced}
+use Rattle.plaintext.specs.Plain.{spaced}
 use Rattle.writing.proofs.bytes.put_words.Given as goal
 
 abbrev pub invariant-loop-word : goal.invariant-loop-word

@@ -1,7 +1,7 @@
 use Rattle.std.proofs.Common.{ap, ◌∙◌, length}
 use Rattle.formula.specs.Families.{place_of_event}
 use Rattle.formula_tables.specs.Places.{first_place}
-use Rattle.formula_tables.specs.Slots.{event_slot, event_slots}
+use Rattle.formula_tables.specs.Numbers.{event_slot, event_slots}
 use Rattle.formula_tables.proofs.EventSlots.{event_place}
 use Rattle.formula_tables.proofs.events.Events.place_of.Goals as goal
 

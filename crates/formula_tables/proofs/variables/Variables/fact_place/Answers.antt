@@ -2,7 +2,7 @@ use Rattle.std.proofs.Common.{length, map, ap, ◌∙◌}
 use Rattle.std.specs.List.{position_or_len}
 use Rattle.formula.specs.Numbering.{facts, is_same_fact}
 use Rattle.formula_tables.specs.Places.{first_place}
-use Rattle.formula_tables.specs.Slots.{fact_slot}
+use Rattle.formula_tables.specs.Numbers.{fact_slot}
 use Rattle.formula_tables.proofs.FactSlots.{fact_by_slot}
 use Rattle.formula_tables.proofs.variables.Variables.fact_place.Goals as goal
 

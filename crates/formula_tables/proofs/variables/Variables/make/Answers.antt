@@ -2,8 +2,7 @@ use Rattle.std.proofs.Common.{◌+◌, ◌*◌, map, refl, sym, ap, ◌∙◌, s
 use Rattle.formula.specs.Families.{events}
 use Rattle.formula.specs.Orders.{clock_size, used_pairs}
 use Rattle.formula.specs.Numbering.{facts}
-use Rattle.formula_tables.specs.Numbers.{IsSmall}
-use Rattle.formula_tables.specs.Slots.{fact_slot, pair_slot}
+use Rattle.formula_tables.specs.Numbers.{IsSmall, fact_slot, pair_slot}
 use Rattle.formula_tables.proofs.FactSlots.{fact_slots_below, pair_slots_below}
 use Rattle.formula_tables.proofs.variables.Variables.make.Goals as goal
 

@@ -2,7 +2,7 @@ use Rattle.std.proofs.Common.{length, map, ap, ◌∙◌}
 use Rattle.formula.specs.Families.{events}
 use Rattle.formula.specs.Orders.{used_pairs, place_of_pair}
 use Rattle.formula_tables.specs.Places.{first_place}
-use Rattle.formula_tables.specs.Slots.{pair_slot}
+use Rattle.formula_tables.specs.Numbers.{pair_slot}
 use Rattle.formula_tables.proofs.FactSlots.{pair_by_slot}
 use Rattle.formula_tables.proofs.variables.Variables.pair_place.Goals as goal
 

@@ -2,7 +2,7 @@ use Rattle.std.proofs.Common.{length, ap, ◌∙◌}
 use Rattle.std.proofs.lemmas.List.{length-map}
 use Rattle.formula.specs.Families.{events}
 use Rattle.formula.specs.Orders.{used_pairs}
-use Rattle.formula_tables.specs.Slots.{pair_slot}
+use Rattle.formula_tables.specs.Numbers.{pair_slot}
 use Rattle.formula_tables.proofs.variables.Variables.used_count.Goals as goal
 
 pub returns-clause-same : goal.returns-clause-same

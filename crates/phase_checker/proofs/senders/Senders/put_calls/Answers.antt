@@ -1,5 +1,5 @@
 use Rattle.std.proofs.Common.{arith}
-use Rattle.phase_checker.specs.parts.Senders.{place_sent}
+use Rattle.phase_checker.specs.parts.Early.{place_sent}
 use Rattle.phase_checker.proofs.Sent.{raised_by_call}
 use Rattle.phase_checker.proofs.senders.Senders.put_calls.Goals as goal
 

@@ -1,6 +1,5 @@
 use Rattle.std.proofs.Common.{sym, subst}
-use Rattle.sharedpool.specs.Seats.{Chair}
-use Rattle.sharedpool.specs.Told.{IsViewTold}
+use Rattle.sharedpool.specs.Seats.{Chair, IsViewTold}
 use Rattle.sharedpool.proofs.Told.{told_fetched}
 use Rattle.sharedpool.proofs.shared.SharedPoolShare.fetch.Goals as goal
 

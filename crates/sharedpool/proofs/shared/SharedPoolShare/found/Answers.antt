@@ -1,6 +1,5 @@
 use Rattle.std.proofs.Common.{sym, subst}
-use Rattle.sharedpool.specs.Seats.{Chair}
-use Rattle.sharedpool.specs.Told.{IsViewTold}
+use Rattle.sharedpool.specs.Seats.{Chair, IsViewTold}
 use Rattle.sharedpool.proofs.Told.{told_stuck}
 use Rattle.sharedpool.proofs.Growth.{found_stuck, found_not_stuck}
 use Rattle.sharedpool.proofs.shared.SharedPoolShare.found.Goals as goal

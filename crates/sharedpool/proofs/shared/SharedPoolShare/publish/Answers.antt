@@ -2,8 +2,7 @@ use Rattle.std.proofs.Common.{ap, sym, subst, ◌∙◌}
 use Rattle.std.specs.Prelude.{IfSome}
 use Rattle.clauses.specs.Clauses.{Conjunction}
 use Rattle.encode.specs.Encodings.{EncodedProgram}
-use Rattle.sharedpool.specs.Seats.{Chair}
-use Rattle.sharedpool.specs.Told.{IsViewTold, IsDerivedFrom}
+use Rattle.sharedpool.specs.Seats.{Chair, IsViewTold, IsDerivedFrom}
 use Rattle.sharedpool.proofs.Told.{told_published}
 use Rattle.sharedpool.proofs.shared.SharedPoolShare.publish.Goals as goal
 
