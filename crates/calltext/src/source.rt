@@ -2,6 +2,7 @@
 
 ghost use Rattle.std.specs.Prelude.{◌≡◌, ◌<◌, length, map, slice_get, Some};
 ghost use Rattle.calltext.specs.Readable.{IsReadable, IsReadableWithin};
+ghost use Rattle.calltext.specs.Grammar.{long};
 ghost use Rattle.calltext.specs.Body.{views};
 
 use crate::call::{CallLine, Policy};

@@ -3,6 +3,7 @@
 ghost use Rattle.std.specs.Prelude.{◌≡◌, ◌≤◌, ◌<◌, ◌+◌, ◌∷◌, [], IfOk, IfSome, length, true};
 ghost use Rattle.crossbeam_utils.specs.Seq.{cell_view};
 ghost use Rattle.pool.specs.Moves.{AreOfBatch};
+ghost use Rattle.sharedpool.specs.Seats.{GoesOnByFetch, IsDerivedFrom};
 ghost use Rattle.sharedpool.specs.parts.Seats.{IsSeat};
 ghost use Rattle.sharedpool.specs.parts.Views.{taker};
 ghost use Rattle.sharedpool.specs.Views.{items_of, AllBelow, AreDifferent};
@@ -28,7 +29,7 @@ pub(crate) struct Ticket<B: PoolName> {
 impl<B: PoolName> Model for Ticket<B> {
     ghost use Rattle.crossbeam_utils.specs.Seq.{cell_view};
     ghost use Rattle.sharedpool.specs.parts.Seats.{IsSeat};
-    ghost use Rattle.sharedpool.specs.Seats.{Chair, GoesOnByFetch, IsDerivedFrom, IsViewTold};
+    ghost use Rattle.sharedpool.specs.Seats.{Chair, IsViewTold};
 
     ghost Value = { Chair };
 
