@@ -19,7 +19,7 @@ const BYTES_OF_A_WORD: usize = 8;
 
 /// A portion of the lines: its text, and the lines behind it that aren't written.
 #[derive(Drop)]
-pub struct TextPart {
+pub struct WrittenPortion {
     text: Vec<u8>,
     lines: Vec<Line>,
 }
@@ -108,15 +108,15 @@ fn text_of(alloc: Global, lines: &[Line]) -> Result<Vec<u8>, AllocError>
 }
 
 /// The portion with its text. Its lines are dropped then, or else kept, where memory ran out.
-fn written(alloc: Global, lines: Vec<Line>) -> TextPart
+fn written(alloc: Global, lines: Vec<Line>) -> WrittenPortion
     ensures { portion_text result ≡ lines_text lines.items }
 {
     match text_of(alloc, &lines) {
-        Ok(text) => TextPart {
+        Ok(text) => WrittenPortion {
             text,
             lines: Vec::new(alloc),
         },
-        Err(AllocError) => TextPart {
+        Err(AllocError) => WrittenPortion {
             text: Vec::new(alloc),
             lines,
         },
@@ -124,15 +124,15 @@ fn written(alloc: Global, lines: Vec<Line>) -> TextPart
 }
 
 /// Writes the part at the end.
-fn put_part(alloc: Global, out: &mut Text, part: TextPart) -> Result<(), AllocError>
+fn put_part(alloc: Global, out: &mut Text, part: WrittenPortion) -> Result<(), AllocError>
     ensures { OnOk result (out.new ≡ out.old ++ portion_text part) }
 {
-    let TextPart { text, lines } = part;
+    let WrittenPortion { text, lines } = part;
     out.push(text)?;
     out.push(text_of(alloc, &lines)?)
 }
 
-fn put_parts(alloc: Global, out: &mut Text, parts: Vec<TextPart>) -> Result<(), AllocError>
+fn put_parts(alloc: Global, out: &mut Text, parts: Vec<WrittenPortion>) -> Result<(), AllocError>
     ensures { OnOk result (out.new ≡ out.old ++ flat_map portion_text parts.items) }
 {
     for part in parts {
@@ -156,7 +156,7 @@ pub(crate) fn put_portions<R: Threads + Sync>(
     let parts = thread::map_vec(
         rt,
         portions,
-        &|portion: Vec<Line>| -> TextPart
+        &|portion: Vec<Line>| -> WrittenPortion
             ensures { portion_text result ≡ lines_text portion.items }
         { written(alloc, portion) },
     )?;

@@ -22,7 +22,7 @@ use Rattle.prooflog.specs.Refutations.{proof_words, is_line_in_range, item_line,
 use Rattle.prooflog.specs.Steps.{schedule_line}
 use Rattle.prooflog.specs.Grammar.{heading_line, refutation_line}
 use Rattle.prooflog.specs.Fault.{CanGoOnAsEvidence, IsWhy}
-use Rattle.prooflog.specs.declared.portions.TextPart.{TextPart}
+use Rattle.prooflog.specs.declared.portions.WrittenPortion.{WrittenPortion}
 use Rattle.prooflog.specs.declared.portions.Portions.{Portions}
 
 -- the two headings
@@ -39,7 +39,7 @@ tree_text nodes = flat_map item_line (the_tree ∷ map a_node nodes)
 
 -- the text of a portion of the proof lines: what is written of it, and then that of the lines that
 -- aren't
-abbrev pub portion_text : TextPart → List ℕ
+abbrev pub portion_text : WrittenPortion → List ℕ
 portion_text part = part.text.items ++ lines_text part.lines.items
 
 -- the lines of portions
