@@ -29,7 +29,7 @@ pub(crate) struct Ticket<B: PoolName> {
 impl<B: PoolName> Model for Ticket<B> {
     ghost use Rattle.crossbeam_utils.specs.Seq.{cell_view};
     ghost use Rattle.sharedpool.specs.parts.Seats.{IsSeat};
-    ghost use Rattle.sharedpool.specs.Seats.{Chair, IsViewTold};
+    ghost use Rattle.sharedpool.specs.Seats.{Chair};
 
     ghost Value = { Chair };
 
@@ -52,7 +52,7 @@ pub struct Seat<B: PoolName> {
 
 impl<B: PoolName> Model for Seat<B> {
     ghost use Rattle.std.specs.Prelude.{◌≡◌, ◌+◌, length};
-    ghost use Rattle.sharedpool.specs.Seats.{Chair};
+    ghost use Rattle.sharedpool.specs.Seats.{Chair, IsViewTold};
 
     ghost Value = { Chair };
 
