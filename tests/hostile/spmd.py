@@ -388,8 +388,9 @@ OPERATORS = {'+': lambda a, b: a + b, '-': lambda a, b: a - b, '*': lambda a, b:
 class Rank:
     """One rank's way through a text."""
 
-    def __init__(self, rank, size, values, barriers):
+    def __init__(self, rank, size, values, barriers, meetings):
         self.rank, self.size, self.values, self.barriers, self.left_out, self.met, self.calls = rank, size, dict(values), barriers, [], [], []
+        self.meetings = meetings
 
     def value(self, expression):
         kind, *parts = expression
@@ -462,6 +463,23 @@ class Rank:
         if label and self.is_left_out(kind, label):
             raise Wrong(f'{label[0]} is started again before its end')
 
+    def is_open(self, kind, label):
+        """Whether a call started it, and no call behind that ended it."""
+        is_open = False
+        for _, (word, request, handle, *_) in self.calls:
+            if word in ('wait', 'waitall'):
+                is_open = is_open and not (kind == 'request' and label in request)
+            elif word in ('mrecv', 'imrecv') and kind == 'handle':
+                is_open = is_open and handle != label
+            elif request == label and (word == 'mprobe') == (kind == 'handle'):
+                is_open = True
+        return is_open
+
+    def leave(self, kind, label, where):
+        if self.is_open(kind, label):
+            raise Wrong(f'{label[0]} is started again before its end')
+        self.left_out.append((kind, label, where))
+
     def forget(self, kind, label):
         self.left_out = [entry for entry in self.left_out if entry[:2] != (kind, label)]
 
@@ -476,7 +494,7 @@ class Rank:
         if peer is not None:
             self.put(where, word, request, None, [peer, tag], communicator)
         elif request:
-            self.left_out.append((kind, request, where))
+            self.leave(kind, request, where)
 
     def put(self, where, word, request=None, handle=None, numbers=(), communicator=0):
         self.calls.append((where, [word, request, handle, list(numbers), communicator]))
@@ -498,15 +516,18 @@ class Rank:
             step = self.number(group[2])
             if not 1 <= step < 65536:
                 raise Wrong(f'step {step} of a group is not 1 to 65535')
-        communicator = 128 + self.communicator(communicator)
+        own = self.communicator(communicator)
         members = range(first, last + 1, step)
         root = first if root is None else root
         for rank in (self.rank, root):
             if rank not in members:
                 raise Wrong(f'rank {rank} is not of the group')
-        way = communicator, first, last, step
-        tag = 32 * self.met.count(way) + 2 * KINDS.index(kind)
-        self.met.append(way)
+        meeting = own, *members
+        if meeting not in self.meetings:
+            self.meetings.append(meeting)
+        communicator = 128 + self.meetings.index(meeting)
+        tag = 32 * self.met.count(meeting) + 2 * KINDS.index(kind)
+        self.met.append(meeting)
         others = [rank for rank in members if rank != self.rank]
         meet, spread, collect = ([('recv', 0), ('bsend', 1)], [('bsend', 0), ('recv', 1)]), \
             ([('send', 0), ('bsend', 1)], [('recv', 0), ('recv', 1)]), ([('recv', 0), ('recv', 1)], [('bsend', 0), ('send', 1)])
@@ -543,7 +564,7 @@ class Rank:
             if self.is_left_out('handle', handle):
                 self.forget('handle', handle)
                 if request:
-                    self.left_out.append(('request', request, where))
+                    self.leave('request', request, where)
             else:
                 self.put(where, word, request, handle)
         else:
@@ -625,8 +646,10 @@ class Unroller:
         """The program's text, and the map's entries."""
         lines, places = [f'ranks {self.size}', f'policy {self.policy}'], []
         said = [said_of(line) for line in self.source.split(b'\n')]
+        # Who meets in collective calls, in the order in which they first do: a communicator and its ranks.
+        meetings = []
         for number in range(self.size):
-            rank = Rank(number, self.size, self.settings, self.barriers)
+            rank = Rank(number, self.size, self.settings, self.barriers, meetings)
             self.run(rank, self.statements, [])
             if rank.left_out:
                 _, label, (line, turns) = rank.left_out[0]

@@ -67,6 +67,7 @@ reason_text names size reason.TooManyTurns = codes "more than 10000000 turns of 
 reason_text names size (reason.GroupStep step) = counted (codes "step ") step (codes " of a group is not 1 to 65535")
 reason_text names size (reason.NotInGroup rank) = counted (codes "rank ") (pos rank) (codes " is not of the group")
 reason_text names size reason.TooManyCollectives = codes "more than 67108864 collective calls with one communicator and group"
+reason_text names size reason.TooManyGroups = codes "more than 2147483520 groups of collective calls"
 
 -- ---- places
 

@@ -169,6 +169,7 @@ fn put_reason(
             out,
             "more than 67108864 collective calls with one communicator and group",
         ),
+        FaultReason::TooManyGroups => put(out, "more than 2147483520 groups of collective calls"),
     }
 }
 

@@ -1,3 +1,5 @@
 pub mod Turns
 pub mod Ranks
 pub mod Apart
+pub mod Spelling
+pub mod Staying

@@ -1,5 +1,5 @@
 -- The arguments of a call, evaluated from left to right: the first thing that is wrong is told.
-use Rattle.std.specs.Prelude.{ℕ, ◌+◌, ◌-◌, ℤ, nat_eq, List, Option, Some, None, Result, Ok, Err, if◌then◌else◌}
+use Rattle.std.specs.Prelude.{ℕ, ◌-◌, ℤ, nat_eq, List, Option, Some, None, Result, Ok, Err, if◌then◌else◌}
 use Rattle.spmd_tree.specs.declared.tree.Expression.{Expression}
 use Rattle.spmd_tree.specs.declared.tree.CollectiveKind.{CollectiveKind}
 use Rattle.spmd_tree.specs.declared.tree.LabelForm.{LabelForm}
@@ -103,16 +103,6 @@ group_of None rank size values = Ok (record { first = 0; last = size - 1; step =
 group_of (Some f) rank size values =
     on_found (scoped_rank f.first rank size values) (λ a. on_found (scoped_rank f.last rank size values) (λ b. on_found (scoped_step f.step rank size values) (λ s. Ok (record { first = a; last = b; step = s }))))
 
-abbrev pub above : Option ℕ → ℤ → Result ℕ FaultReason
-above None n = Err (reason.CommunicatorRange n)
-above (Some c) n = Ok (128 + c)
-
--- the messages of a collective call have a communicator 128 above its own, so that no receive of
--- the text takes them
-abbrev pub collective_communicator : Option Expression → Scoped ℕ
-collective_communicator None rank size values = Ok 128
-collective_communicator (Some e) rank size values = on_found (scoped_number e rank size values) (λ n. above (below n 128) n)
-
 -- ---- calls
 
 -- a source, a tag and a communicator
@@ -153,7 +143,7 @@ exchanged destination send_tag source receive_tag communicator rank size values 
 
 abbrev pub collected : CollectiveKind → Option Expression → Option GroupForm → Option Expression → Scoped Prepared
 collected kind root group communicator rank size values =
-    on_found (root_of root rank size values) (λ r. on_found (group_of group rank size values) (λ g. on_found (collective_communicator communicator rank size values) (λ c. Ok (given.Collective kind r g c))))
+    on_found (root_of root rank size values) (λ r. on_found (group_of group rank size values) (λ g. on_found (scoped_communicator communicator rank size values) (λ c. Ok (given.Collective kind r g c))))
 
 abbrev pub prepared : Arguments → Scoped Prepared
 prepared (form.Send mode request destination tag communicator) rank size values = sent mode request destination tag communicator rank size values

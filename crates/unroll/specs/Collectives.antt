@@ -17,22 +17,23 @@ use Rattle.unroll.specs.declared.call.UnrolledCall.TheVariants as call
 use Rattle.unroll.specs.declared.collective.Way.{Way}
 use Rattle.unroll.specs.Groups.{others, before, member_after}
 
-abbrev pub number : CollectiveKind → ℕ
-number kind.Barrier = 0
-number kind.Broadcast = 1
-number kind.Reduce = 2
-number kind.AllReduce = 3
-number kind.Gather = 4
-number kind.Scatter = 5
-number kind.AllGather = 6
-number kind.AllToAll = 7
-number kind.Scan = 8
+abbrev pub kind_number : CollectiveKind → ℕ
+kind_number kind.Barrier = 0
+kind_number kind.Broadcast = 1
+kind_number kind.Reduce = 2
+kind_number kind.AllReduce = 3
+kind_number kind.Gather = 4
+kind_number kind.Scatter = 5
+kind_number kind.AllGather = 6
+kind_number kind.AllToAll = 7
+kind_number kind.Scan = 8
 
--- Messages of two collective calls of a rank with one communicator and group have tags of their
--- own, and so have those of two kinds of call, and those of the two rounds. So calls match in their
--- order, and one of another kind matches none.
+-- Those who meet have a communicator of their own, from 128 on, by their number; the text's own
+-- calls have those below. Messages of two collective calls of a rank with the same others have tags
+-- of their own, and so have those of two kinds of call, and those of the two rounds. So calls match
+-- in their order, and one of another kind, communicator or set of ranks matches none.
 abbrev pub way_of : CollectiveKind → ℕ → ℕ → Way
-way_of k earlier c = record { first = 32 * earlier + 2 * number k; second = 32 * earlier + 2 * number k + 1; communicator = c }
+way_of k earlier meeting = record { first = 32 * earlier + 2 * kind_number k; second = 32 * earlier + 2 * kind_number k + 1; communicator = 128 + meeting }
 
 abbrev pub send : SendMode → ℕ → ℕ → ℕ → UnrolledCall
 send mode tag c rank = call.Send mode None rank tag c

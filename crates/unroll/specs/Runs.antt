@@ -9,8 +9,10 @@ use Rattle.unroll.specs.declared.value.FaultReason.{FaultReason}
 use Rattle.unroll.specs.declared.value.FaultReason.TheVariants as reason
 use Rattle.unroll.specs.declared.call.Label.{Label}
 use Rattle.unroll.specs.declared.call.LeftOut.{LeftOut}
+use Rattle.unroll.specs.declared.call.Start.{Start}
 use Rattle.unroll.specs.declared.call.Group.{Group}
 use Rattle.unroll.specs.declared.call.Meeting.{Meeting}
+use Rattle.unroll.specs.declared.call.Attendance.{Attendance}
 use Rattle.unroll.specs.declared.call.UnrolledCall.{UnrolledCall}
 use Rattle.unroll.specs.declared.call.UnrolledCall.TheVariants as call
 use Rattle.unroll.specs.declared.call.Placed.{Placed}
@@ -19,17 +21,20 @@ use Rattle.unroll.specs.declared.call.Fault.{Fault}
 use Rattle.unroll.specs.declared.arguments.Prepared.{Prepared}
 use Rattle.unroll.specs.declared.arguments.Prepared.TheVariants as given
 use Rattle.unroll.specs.declared.machine.Scope.{Scope}
-use Rattle.unroll.specs.Labels.{is_left_out, without}
-use Rattle.unroll.specs.Groups.{is_member, earlier_meetings, root_in}
+use Rattle.unroll.specs.Labels.{request, handle, is_left_out, without, is_open, opened_after}
+use Rattle.unroll.specs.Groups.{is_member, root_in, meeting_of, meeting_number, meetings_with, earlier_calls, attendance_put}
 use Rattle.unroll.specs.Collectives.{collective_calls, kind_for, way_of}
 
 -- How far a text is unrolled: the values of names, the starts that were left out and have not
--- ended, the collective calls that the rank has made, the calls of all ranks so far in their order,
--- the turns of loops so far, and the number of the turn that is going on, 0 for none.
+-- ended, those that were made, each with whether it has not ended; of all ranks so far those who met in collective calls, each at its number, who attended
+-- last there, the calls in their order, and the turns of loops; and the number of the turn that is
+-- going on, 0 for none.
 pub record TextRun : Type 0 where
   pub values : List (Option Value)
   pub left_out : List LeftOut
-  pub met : List Meeting
+  pub opened : List (Start × Bool)
+  pub meetings : List Meeting
+  pub attended : List Attendance
   pub calls : List Placed
   pub turns : List Turn
   pub turn : ℕ
@@ -61,29 +66,31 @@ attempt scope line run (Ok x) go = go x
 abbrev pub call_put : Scope → ℕ → UnrolledCall → TextRun → Outcome
 call_put scope line c run =
     if nat_lt (length run.calls) scope.most_calls
-    then Done (record { values = run.values; left_out = run.left_out; met = run.met; calls = run.calls ++ record { rank = scope.rank; line = line; turn = run.turn; call = c } ∷ []; turns = run.turns; turn = run.turn })
+    then Done (record { values = run.values; left_out = run.left_out; opened = opened_after c run.opened; meetings = run.meetings; attended = run.attended; calls = run.calls ++ record { rank = scope.rank; line = line; turn = run.turn; call = c } ∷ []; turns = run.turns; turn = run.turn })
     else failed scope line reason.TooManyCalls run
 
 -- a start is refused where one of its name was left out and has not ended
-abbrev pub guarded : Scope → ℕ → Bool → Label → TextRun → Outcome
-guarded scope line handle label run = if is_left_out run.left_out handle label then failed scope line (reason.StillOpen label.name) run else Done run
+abbrev pub guarded : Scope → ℕ → Start → TextRun → Outcome
+guarded scope line s run = if is_left_out run.left_out s then failed scope line (reason.StillOpen s.label.name) run else Done run
 
 abbrev pub guarded_request : Scope → ℕ → Option Label → TextRun → Outcome
 guarded_request scope line None run = Done run
-guarded_request scope line (Some label) run = guarded scope line false label run
+guarded_request scope line (Some label) run = guarded scope line (request label) run
 
--- a start is left out
-abbrev pub left : ℕ → Bool → Label → TextRun → Outcome
-left line handle label run =
-    Done (record { values = run.values; left_out = run.left_out ++ record { handle = handle; label = label; line = line; turn = run.turn } ∷ []; met = run.met; calls = run.calls; turns = run.turns; turn = run.turn })
+-- a start is left out; it is refused where one of its name was made and has not ended
+abbrev pub left : Scope → ℕ → Start → TextRun → Outcome
+left scope line s run =
+    if is_open run.opened s
+    then failed scope line (reason.StillOpen s.label.name) run
+    else Done (record { values = run.values; left_out = run.left_out ++ record { start = s; line = line; turn = run.turn } ∷ []; opened = run.opened; meetings = run.meetings; attended = run.attended; calls = run.calls; turns = run.turns; turn = run.turn })
 
-abbrev pub left_request : ℕ → Option Label → TextRun → Outcome
-left_request line None run = Done run
-left_request line (Some label) run = left line false label run
+abbrev pub left_request : Scope → ℕ → Option Label → TextRun → Outcome
+left_request scope line None run = Done run
+left_request scope line (Some label) run = left scope line (request label) run
 
 -- the end of a start that was left out is left out too
-abbrev pub forgotten : Bool → Label → TextRun → TextRun
-forgotten handle label run = record { values = run.values; left_out = without run.left_out handle label; met = run.met; calls = run.calls; turns = run.turns; turn = run.turn }
+abbrev pub forgotten : Start → TextRun → TextRun
+forgotten s run = record { values = run.values; left_out = without run.left_out s; opened = run.opened; meetings = run.meetings; attended = run.attended; calls = run.calls; turns = run.turns; turn = run.turn }
 
 -- with a peer the call is made, and with null it is left out
 abbrev pub with_peer : {A : Type 0} → Option A → Outcome → (A → Outcome) → Outcome
@@ -92,16 +99,16 @@ with_peer (Some peer) out made = made peer
 
 -- a receive on a handle whose probe was left out is left out too, and its request with it
 abbrev pub matched : Scope → ℕ → Option Label → Label → TextRun → Outcome
-matched scope line request handle run =
-    if is_left_out run.left_out true handle
-    then left_request line request (forgotten true handle run)
-    else call_put scope line (call.MatchedReceive request handle) run
+matched scope line r h run =
+    if is_left_out run.left_out (handle h)
+    then left_request scope line r (forgotten (handle h) run)
+    else call_put scope line (call.MatchedReceive r h) run
 
 abbrev pub waited : Scope → ℕ → Label → TextRun → Outcome
-waited scope line request run =
-    if is_left_out run.left_out false request
-    then Done (forgotten false request run)
-    else call_put scope line (call.Wait request) run
+waited scope line r run =
+    if is_left_out run.left_out (request r)
+    then Done (forgotten (request r) run)
+    else call_put scope line (call.Wait r) run
 
 -- a joined send and receive with null on one side is the other side alone; with null on both sides
 -- it is no call
@@ -120,61 +127,78 @@ abbrev pub put_each : List UnrolledCall → Scope → ℕ → TextRun → Outcom
 put_each [] scope line run = Done run
 put_each (c ∷ others) scope line run = then_do (call_put scope line c run) (λ r. put_each others scope line r)
 
--- one collective call more, with this communicator and group
-abbrev pub meeting_noted : ℕ → Group → TextRun → TextRun
-meeting_noted c g run = record { values = run.values; left_out = run.left_out; met = run.met ++ record { communicator = c; group = g } ∷ []; calls = run.calls; turns = run.turns; turn = run.turn }
+-- these meet, and have a number from now on
+abbrev pub with_meeting : Meeting → TextRun → TextRun
+with_meeting m run = record { values = run.values; left_out = run.left_out; opened = run.opened; meetings = meetings_with run.meetings m; attended = run.attended; calls = run.calls; turns = run.turns; turn = run.turn }
 
--- a collective call is the calls that it stands for; who makes it, and its root, are of its group
+-- the rank made so many of the collective calls of those with this number
+abbrev pub attendance_noted : ℕ → ℕ → ℕ → TextRun → TextRun
+attendance_noted number rank calls run = record { values = run.values; left_out = run.left_out; opened = run.opened; meetings = run.meetings; attended = attendance_put run.attended number (record { rank = rank; calls = calls }); calls = run.calls; turns = run.turns; turn = run.turn }
+
+-- a collective call of those with this number, before which the rank made so many, is the calls
+-- that it stands for
+abbrev pub collective_put : Scope → ℕ → CollectiveKind → ℕ → Group → ℕ → ℕ → TextRun → Outcome
+collective_put scope line kind root g number earlier run =
+    put_each (collective_calls (kind_for scope.barriers kind) root g scope.size scope.rank (way_of kind earlier number)) scope line (attendance_noted number scope.rank (earlier + 1) run)
+
+abbrev pub meeting_run : Scope → ℕ → CollectiveKind → ℕ → Group → ℕ → TextRun → Outcome
+meeting_run scope line kind root g number run =
+    if nat_le 2147483520 number
+    then failed scope line reason.TooManyGroups run
+    else if nat_le 67108864 (earlier_calls run.attended number scope.rank)
+    then failed scope line reason.TooManyCollectives run
+    else collective_put scope line kind root g number (earlier_calls run.attended number scope.rank) run
+
+-- who makes a collective call, and its root, are of its group; those who meet have a number, in the
+-- order in which they first do so, on all ranks
 abbrev pub collective_run : Scope → ℕ → CollectiveKind → ℕ → Group → ℕ → TextRun → Outcome
 collective_run scope line kind root g c run =
     if is_member g scope.rank
     then if is_member g root
-    then if nat_le 67108864 (earlier_meetings run.met c g)
-    then failed scope line reason.TooManyCollectives run
-    else put_each (collective_calls (kind_for scope.barriers kind) root g scope.size scope.rank (way_of kind (earlier_meetings run.met c g) c)) scope line (meeting_noted c g run)
+    then meeting_run scope line kind root g (meeting_number run.meetings (meeting_of c g)) (with_meeting (meeting_of c g) run)
     else failed scope line (reason.NotInGroup root) run
     else failed scope line (reason.NotInGroup scope.rank) run
 
 -- a send, with its peer or with null
 abbrev pub sent : Scope → ℕ → SendMode → Option Label → Option ℕ → ℕ → ℕ → TextRun → Outcome
-sent scope line mode request destination tag c run =
-    then_do (guarded_request scope line request run) (λ r. with_peer destination (left_request line request r) (λ d. call_put scope line (call.Send mode request d tag c) r))
+sent scope line mode label destination tag c run =
+    then_do (guarded_request scope line label run) (λ r. with_peer destination (left_request scope line label r) (λ d. call_put scope line (call.Send mode label d tag c) r))
 
 abbrev pub received : Scope → ℕ → Option Label → Option (Option ℕ) → Option ℕ → ℕ → TextRun → Outcome
-received scope line request source tag c run =
-    then_do (guarded_request scope line request run) (λ r. with_peer source (left_request line request r) (λ s. call_put scope line (call.Receive request s tag c) r))
+received scope line label source tag c run =
+    then_do (guarded_request scope line label run) (λ r. with_peer source (left_request scope line label r) (λ s. call_put scope line (call.Receive label s tag c) r))
 
 abbrev pub matched_probed : Scope → ℕ → Label → Option (Option ℕ) → Option ℕ → ℕ → TextRun → Outcome
-matched_probed scope line handle source tag c run =
-    then_do (guarded scope line true handle run) (λ r. with_peer source (left line true handle r) (λ s. call_put scope line (call.MatchedProbe handle s tag c) r))
+matched_probed scope line h source tag c run =
+    then_do (guarded scope line (handle h) run) (λ r. with_peer source (left scope line (handle h) r) (λ s. call_put scope line (call.MatchedProbe h s tag c) r))
 
 abbrev pub probed : Scope → ℕ → Option (Option ℕ) → Option ℕ → ℕ → TextRun → Outcome
 probed scope line source tag c run = with_peer source (Done run) (λ s. call_put scope line (call.Probe s tag c) run)
 
 abbrev pub perform : Scope → ℕ → Prepared → TextRun → Outcome
-perform scope line (given.Send mode request destination tag c) run = sent scope line mode request destination tag c run
-perform scope line (given.Receive request source tag c) run = received scope line request source tag c run
-perform scope line (given.MatchedProbe handle source tag c) run = matched_probed scope line handle source tag c run
+perform scope line (given.Send mode label destination tag c) run = sent scope line mode label destination tag c run
+perform scope line (given.Receive label source tag c) run = received scope line label source tag c run
+perform scope line (given.MatchedProbe h source tag c) run = matched_probed scope line h source tag c run
 perform scope line (given.Probe source tag c) run = probed scope line source tag c run
 perform scope line (given.Collective kind root g c) run = collective_run scope line kind (root_in g root) g c run
-perform scope line (given.MatchedReceive request handle) run = then_do (guarded_request scope line request run) (λ r. matched scope line request handle r)
-perform scope line (given.Wait request) run = waited scope line request run
+perform scope line (given.MatchedReceive label h) run = then_do (guarded_request scope line label run) (λ r. matched scope line label h r)
+perform scope line (given.Wait label) run = waited scope line label run
 perform scope line (given.SendReceive destination send_tag source receive_tag c) run = put_optional scope line (joined_call destination send_tag source receive_tag c) run
 
 -- the first request of a `waitall`, or a further one
 abbrev pub wait_call : Bool → Label → UnrolledCall
-wait_call true request = call.WaitAll request
-wait_call false request = call.WaitAlso request
+wait_call true r = call.WaitAll r
+wait_call false r = call.WaitAlso r
 
 abbrev pub wait_part : Scope → ℕ → Bool → Label → TextRun → Outcome
-wait_part scope line first request run =
-    if is_left_out run.left_out false request
-    then Done (forgotten false request run)
-    else call_put scope line (wait_call first request) run
+wait_part scope line first r run =
+    if is_left_out run.left_out (request r)
+    then Done (forgotten (request r) run)
+    else call_put scope line (wait_call first r) run
 
 -- the next request is the first, where this one was the first and is left out
 abbrev pub still_first : Bool → Label → TextRun → Bool
-still_first first request run = if is_left_out run.left_out false request then first else false
+still_first first r run = if is_left_out run.left_out (request r) then first else false
 
 -- ---- names and loops
 
@@ -182,15 +206,15 @@ abbrev pub set_value : List (Option Value) → ℕ → Option Value → List (Op
 set_value values name v = if nat_lt name (length values) then slice_set values name v else values
 
 abbrev pub assigned : ℕ → Value → TextRun → TextRun
-assigned name v run = record { values = set_value run.values name (Some v); left_out = run.left_out; met = run.met; calls = run.calls; turns = run.turns; turn = run.turn }
+assigned name v run = record { values = set_value run.values name (Some v); left_out = run.left_out; opened = run.opened; meetings = run.meetings; attended = run.attended; calls = run.calls; turns = run.turns; turn = run.turn }
 
 -- a turn begins, unless there were as many as may be: the loop's variable has this value
 abbrev pub turn_begun : Scope → ℕ → ℕ → ℕ → ℤ → TextRun → Outcome
 turn_begun scope line name outer value run =
     if nat_lt (length run.turns) scope.most_turns
-    then Done (record { values = set_value run.values name (Some (Number value)); left_out = run.left_out; met = run.met; calls = run.calls; turns = run.turns ++ record { outer = outer; name = name; value = value } ∷ []; turn = length run.turns + 1 })
+    then Done (record { values = set_value run.values name (Some (Number value)); left_out = run.left_out; opened = run.opened; meetings = run.meetings; attended = run.attended; calls = run.calls; turns = run.turns ++ record { outer = outer; name = name; value = value } ∷ []; turn = length run.turns + 1 })
     else failed scope line reason.TooManyTurns run
 
 -- a loop ends: its variable has no value any more
 abbrev pub loop_finished : ℕ → ℕ → TextRun → TextRun
-loop_finished name outer run = record { values = set_value run.values name None; left_out = run.left_out; met = run.met; calls = run.calls; turns = run.turns; turn = outer }
+loop_finished name outer run = record { values = set_value run.values name None; left_out = run.left_out; opened = run.opened; meetings = run.meetings; attended = run.attended; calls = run.calls; turns = run.turns; turn = outer }

@@ -100,12 +100,12 @@ meaning (form.Unreached line) scope run = failed scope line reason.ErrorReached 
 
 -- a rank begins: parameters have the values that were set, and nothing else has one
 abbrev pub fresh : List (Option Value) → TextRun → TextRun
-fresh settings run = record { values = settings; left_out = []; met = []; calls = run.calls; turns = run.turns; turn = 0 }
+fresh settings run = record { values = settings; left_out = []; opened = []; meetings = run.meetings; attended = run.attended; calls = run.calls; turns = run.turns; turn = 0 }
 
 -- a rank ends; each start that was left out has to have ended
 abbrev pub ended : ℕ → List LeftOut → TextRun → Outcome
 ended rank [] run = Done run
-ended rank (l ∷ others) run = Failed (record { rank = rank; line = l.line; turn = l.turn; reason = reason.NeverEnded l.label.name }) run
+ended rank (l ∷ others) run = Failed (record { rank = rank; line = l.line; turn = l.turn; reason = reason.NeverEnded l.start.label.name }) run
 
 abbrev pub rank_run : SpmdStatement → List (Option Value) → Scope → TextRun → Outcome
 rank_run program settings scope run = then_do (meaning program scope (fresh settings run)) (λ r. ended scope.rank r.left_out r)
@@ -118,7 +118,7 @@ ranks_from (suc n) program settings rank size barriers most_calls most_turns run
 
 -- nothing is unrolled yet
 abbrev pub nothing_unrolled : TextRun
-nothing_unrolled = record { values = []; left_out = []; met = []; calls = []; turns = []; turn = 0 }
+nothing_unrolled = record { values = []; left_out = []; opened = []; meetings = []; attended = []; calls = []; turns = []; turn = 0 }
 
 -- the whole text, for so many ranks, where collective calls are barriers or not
 abbrev pub text_run : SpmdStatement → List (Option Value) → ℕ → Bool → ℕ → ℕ → Outcome

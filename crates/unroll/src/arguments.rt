@@ -5,8 +5,7 @@ ghost use Rattle.unroll.specs.Arguments.{collected, exchanged, matched, matched_
 
 use crate::call::{Group, Label};
 use crate::parts::{
-    collective_communicator, communicator, group, label, optional_label, optional_tag, peer, root,
-    source, tag,
+    communicator, group, label, optional_label, optional_tag, peer, root, source, tag,
 };
 use crate::value::{FaultReason, Value};
 use spmd_tree::{Arguments, CollectiveKind, Expression, GroupForm, LabelForm, SendMode};
@@ -53,7 +52,6 @@ pub(crate) enum Prepared {
         receive_tag: Option<u32>,
         communicator: u32,
     },
-    /// The communicator is that of the messages which the collective call stands for, 128 to 255.
     /// No root means the first rank of the group.
     Collective {
         kind: CollectiveKind,
@@ -260,7 +258,7 @@ fn collected(
 {
     let root = root(by, rank, size, values)?;
     let group = group(among, rank, size, values)?;
-    let communicator = collective_communicator(on, rank, size, values)?;
+    let communicator = communicator(on, rank, size, values)?;
     Ok(Prepared::Collective {
         kind,
         root,

@@ -1,14 +1,11 @@
 //! What an unrolled text is made of: calls with their places, turns of loops, and faults.
 
-ghost use Rattle.std.specs.Prelude.{◌≡◌};
-ghost use Rattle.unroll.specs.Labels.{same_label, same_index, is_for};
-
 use crate::value::FaultReason;
 use spmd_tree::SendMode;
 
 /// A request or a handle: a name, by its place from 0 in the list of the text's names, and maybe an
 /// index, 0 to 99,999. Two labels are the same where both are.
-#[derive(Clone, Copy)]
+#[derive(Clone, Copy, PartialEq, Eq, Hash)]
 pub struct Label {
     pub name: u32,
     pub index: Option<u32>,
@@ -16,8 +13,8 @@ pub struct Label {
 
 /// A call of one rank. A source or tag that is `None` is a wildcard (MPI 4.1, section 3.2.4). Ranks
 /// count from 0. The calls that the text has are in communicators 0 to 127, with tags 0 to 32,767;
-/// those that a collective call stands for are in communicators 128 to 255, with tags below 2^31. A
-/// line of several waits is several calls here.
+/// those that a collective call stands for are in communicators of 128 to 2^31 - 1, with tags below
+/// 2^31. A line of several waits is several calls here.
 #[derive(Clone, Copy)]
 pub enum UnrolledCall {
     /// A send, which is started where it has a request (MPI 4.1, sections 3.2.1 and 3.7.2).
@@ -105,55 +102,40 @@ pub struct Fault {
 }
 
 /// The ranks of a collective call: from the first up to the last, each a step above the one before.
-#[derive(Clone, Copy)]
+#[derive(Clone, Copy, PartialEq, Eq, Hash)]
 pub struct Group {
     pub first: u32,
     pub last: u32,
     pub step: u32,
 }
 
-/// A collective call that a rank made, by its communicator and group.
-#[derive(Clone, Copy)]
+/// Those who meet in collective calls: a communicator of the text, 0 to 127, and a set of its
+/// ranks, which is spelled in one way.
+#[derive(Clone, Copy, PartialEq, Eq, Hash)]
 pub(crate) struct Meeting {
     pub(crate) communicator: u32,
     pub(crate) group: Group,
 }
 
-/// A request or a handle whose start was left out, and whose end did not come yet.
+/// The rank that made the last collective call of those who meet, and how many it made of them.
 #[derive(Clone, Copy)]
-pub(crate) struct LeftOut {
+pub(crate) struct Attendance {
+    pub(crate) rank: u32,
+    pub(crate) calls: u32,
+}
+
+/// What a call starts: a request, or the handle of a matched probe. Names of requests and of
+/// handles are apart.
+#[derive(Clone, Copy, PartialEq, Eq, Hash)]
+pub(crate) struct Start {
     pub(crate) handle: bool,
     pub(crate) label: Label,
+}
+
+/// A start that was left out, and whose end did not come yet.
+#[derive(Clone, Copy)]
+pub(crate) struct LeftOut {
+    pub(crate) start: Start,
     pub(crate) line: u32,
     pub(crate) turn: u64,
-}
-
-/// Whether both have this index, or none has one.
-fn same_index(a: Option<u32>, b: Option<u32>) -> bool
-    ensures { result ≡ same_index a b }
-{
-    match a {
-        None => match b {
-            None => true,
-            Some(_) => false,
-        },
-        Some(x) => match b {
-            None => false,
-            Some(y) => x == y,
-        },
-    }
-}
-
-/// Whether the name and the index are the same.
-fn same_label(a: Label, b: Label) -> bool
-    ensures { result ≡ same_label a b }
-{
-    a.name == b.name && same_index(a.index, b.index)
-}
-
-/// Whether the start that was left out is that of this request or this handle.
-pub(crate) fn is_for(left_out: LeftOut, handle: bool, label: Label) -> bool
-    ensures { result ≡ is_for left_out handle label }
-{
-    left_out.handle == handle && same_label(left_out.label, label)
 }

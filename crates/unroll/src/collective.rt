@@ -4,16 +4,16 @@
 //! holds each rank until all have come where none is. `specs/Collectives.antt` defines the forms.
 
 ghost use Rattle.std.specs.Prelude.{◌≡◌, ◌≤◌, ◌<◌, ◌++◌, IfOk, OnOk};
-ghost use Rattle.unroll.specs.Groups.{others, earlier_meetings, before, member_after};
-ghost use Rattle.unroll.specs.Collectives.{number, way_of, send, receive, sends, receives, meet, spread, collect, chain, collective_calls};
+ghost use Rattle.unroll.specs.Groups.{others, before, member_after};
+ghost use Rattle.unroll.specs.Collectives.{kind_number, way_of, send, receive, sends, receives, meet, spread, collect, chain, collective_calls};
 
 use crate::call::{Group, UnrolledCall};
-use crate::members::{after, before, earlier, others};
+use crate::members::{after, before, others};
 use spmd_tree::{CollectiveKind, SendMode};
 use std::alloc::{AllocError, Global};
 
 /// How the messages of a collective call are known: those of its first round by one tag, those of
-/// its second round by another one, in a communicator of 128 or more.
+/// its second round by another one, in a communicator, 128 or more, of those who meet.
 #[derive(Clone, Copy)]
 pub(crate) struct Way {
     pub(crate) first: u32,
@@ -22,8 +22,8 @@ pub(crate) struct Way {
 }
 
 /// The number of a kind of call, 0 to 8, which is part of its tags.
-fn number(kind: CollectiveKind) -> u32
-    ensures number { result ≡ number kind }
+fn kind_number(kind: CollectiveKind) -> u32
+    ensures number { result ≡ kind_number kind }
     ensures small { result ≤ 8 }
 {
     match kind {
@@ -39,17 +39,18 @@ fn number(kind: CollectiveKind) -> u32
     }
 }
 
-/// How the messages are known of a collective call before which so many were made with its
-/// communicator and group: by tags below 2^31.
-pub(crate) fn way_of(kind: CollectiveKind, earlier: u32, communicator: u32) -> Way
-    requires { earlier < 67108864 }
-    ensures { result ≡ way_of kind earlier communicator }
+/// How the messages are known of a collective call of those who meet with this number, before which
+/// the rank made so many of them: by tags and a communicator below 2^31.
+pub(crate) fn way_of(kind: CollectiveKind, earlier: u32, meeting: u32) -> Way
+    requires few { earlier < 67108864 }
+    requires known { meeting < 2147483520 }
+    ensures { result ≡ way_of kind earlier meeting }
 {
-    let first = 32 * earlier + 2 * number(kind);
+    let first = 32 * earlier + 2 * kind_number(kind);
     Way {
         first,
         second: first + 1,
-        communicator,
+        communicator: 128 + meeting,
     }
 }
 

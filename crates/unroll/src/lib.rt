@@ -19,6 +19,6 @@ mod whole;
 
 pub use call::{Fault, Group, Label, Placed, Turn, UnrolledCall};
 pub use expression::evaluate;
-pub use laws::collectives_are_apart;
+pub use laws::{collectives_are_apart, groups_are_spelled_alike, numbers_stay};
 pub use value::{FaultReason, Value};
 pub use whole::{Refusal, UnrollLimits, Unrolled, unroll};

@@ -1,12 +1,13 @@
 //! What is kept while a text is unrolled, and the steps that change it.
 
-ghost use Rattle.std.specs.Prelude.{◌≡◌};
-ghost use Rattle.unroll.specs.Labels.{is_left_out, without};
+ghost use Rattle.std.specs.Prelude.{◌≡◌, OnOk};
+ghost use Rattle.unroll.specs.Labels.{request, handle, is_left_out, without, is_open, opened_so, opened_request, opened_after};
 ghost use Rattle.unroll.specs.parts.Runs.{HasOutcome, seen_run, faulty};
 ghost use Rattle.unroll.specs.Runs.{call_put, guarded, guarded_request, left, left_request, assigned, turn_begun, loop_finished, set_value};
 
-use crate::call::{Fault, Label, LeftOut, Meeting, Placed, Turn, UnrolledCall, is_for};
+use crate::call::{Attendance, Fault, Label, LeftOut, Meeting, Placed, Start, Turn, UnrolledCall};
 use crate::value::{FaultReason, Value};
+use indexmap::{IndexMap, IndexSet};
 use std::alloc::{AllocError, AllocFailed, Global};
 
 /// A rank, from 0, of so many, whether each collective call is a barrier, and how many calls and
@@ -21,14 +22,16 @@ pub(crate) struct Scope {
 }
 
 /// How far a text is unrolled: the values of names, the starts that were left out and have not
-/// ended, the collective calls of the rank so far, the calls and turns of all ranks so far, and the
-/// turn that is going on, or 0.
+/// ended, those that were made, each with whether it has not ended; of all ranks so far those who met in collective calls, who attended last at the number of
+/// each, the calls and the turns; and the turn that is going on, or 0.
 #[derive(Drop)]
 pub(crate) struct Machine {
     pub(crate) alloc: Global,
     pub(crate) values: Vec<Option<Value>>,
     pub(crate) left_out: Vec<LeftOut>,
-    pub(crate) met: Vec<Meeting>,
+    pub(crate) opened: IndexMap<Start, bool>,
+    pub(crate) meetings: IndexSet<Meeting>,
+    pub(crate) attended: Vec<Attendance>,
     pub(crate) calls: Vec<Placed>,
     pub(crate) turns: Vec<Turn>,
     pub(crate) turn: u64,
@@ -75,6 +78,70 @@ pub(crate) fn faulty(machine: &Machine, scope: Scope, line: u32, reason: FaultRe
     })
 }
 
+/// Notes whether a start is open.
+fn open(opened: &mut IndexMap<Start, bool>, start: Start, is: bool) -> Result<(), AllocError>
+    ensures { OnOk result (opened.new.entries ≡ opened_so opened.old.entries start is) }
+{
+    opened.insert(start, is)?;
+    Ok(())
+}
+
+/// A request, as what a call starts.
+pub(crate) fn started_request(label: Label) -> Start
+    ensures { result ≡ request label }
+{
+    Start {
+        handle: false,
+        label,
+    }
+}
+
+/// A handle, as what a call starts.
+pub(crate) fn started_handle(label: Label) -> Start
+    ensures { result ≡ handle label }
+{
+    Start {
+        handle: true,
+        label,
+    }
+}
+
+/// Notes that a request is open, where the call has one.
+fn open_request(opened: &mut IndexMap<Start, bool>, label: Option<Label>) -> Result<(), AllocError>
+    ensures { OnOk result (opened.new.entries ≡ opened_request opened.old.entries label) }
+{
+    match label {
+        None => Ok(()),
+        Some(label) => open(opened, started_request(label), true),
+    }
+}
+
+/// Notes what a call starts, and what it ends.
+fn note(opened: &mut IndexMap<Start, bool>, call: UnrolledCall) -> Result<(), AllocError>
+    ensures { OnOk result (opened.new.entries ≡ opened_after call opened.old.entries) }
+{
+    match call {
+        UnrolledCall::Send { request, .. } => open_request(opened, request),
+        UnrolledCall::Receive { request, .. } => open_request(opened, request),
+        UnrolledCall::MatchedProbe { handle: label, .. } => open(
+            opened,
+            started_handle(label),
+            true,
+        ),
+        UnrolledCall::MatchedReceive {
+            request,
+            handle: label,
+        } => {
+            open(opened, started_handle(label), false)?;
+            open_request(opened, request)
+        }
+        UnrolledCall::Wait { request: label }
+        | UnrolledCall::WaitAll { request: label }
+        | UnrolledCall::WaitAlso { request: label } => open(opened, started_request(label), false),
+        UnrolledCall::Probe { .. } | UnrolledCall::SendReceive { .. } => Ok(()),
+    }
+}
+
 /// Makes one call more, unless there are as many as may be.
 pub(crate) fn put(
     machine: &mut Machine,
@@ -93,40 +160,44 @@ pub(crate) fn put(
         turn: machine.turn,
         call,
     })?;
+    note(&mut machine.opened, call)?;
     Ok(())
 }
 
-/// Whether the start of this request or handle was left out, and did not end yet.
-pub(crate) fn is_left_out(left_out: &[LeftOut], handle: bool, label: Label) -> bool
-    ensures { result ≡ is_left_out left_out.now handle label }
+/// Whether this start was left out, and did not end yet.
+pub(crate) fn is_left_out(left_out: &[LeftOut], start: Start) -> bool
+    ensures { result ≡ is_left_out left_out.now start }
 {
-    left_out.iter().any(|l| is_for(*l, handle, label))
+    left_out.iter().any(|l| l.start == start)
 }
 
-/// Ends what was left out, for this request or handle.
-pub(crate) fn forget(left_out: &mut Vec<LeftOut>, handle: bool, label: Label)
-    ensures { left_out.new.items ≡ without left_out.old.items handle label }
+/// Ends a start that was left out.
+pub(crate) fn forget(left_out: &mut Vec<LeftOut>, start: Start)
+    ensures { left_out.new.items ≡ without left_out.old.items start }
 {
-    left_out.retain(|l| !is_for(*l, handle, label));
+    left_out.retain(|l| l.start != start);
+}
+
+/// What is wrong with a start where one of its name is open.
+fn still_open(machine: &Machine, scope: Scope, line: u32, start: Start) -> Stop
+    ensures { result ≡ faulty scope line (FaultReason.StillOpen start.label.name) (seen_run machine.now) }
+{
+    faulty(
+        machine,
+        scope,
+        line,
+        FaultReason::StillOpen {
+            name: start.label.name,
+        },
+    )
 }
 
 /// Refuses a start of what was left out before and did not end yet.
-pub(crate) fn guard(
-    machine: &Machine,
-    scope: Scope,
-    line: u32,
-    handle: bool,
-    label: Label,
-) -> Result<(), Stop>
-    ensures { HasOutcome result (guarded scope line handle label (seen_run machine.now)) (seen_run machine.now) }
+pub(crate) fn guard(machine: &Machine, scope: Scope, line: u32, start: Start) -> Result<(), Stop>
+    ensures { HasOutcome result (guarded scope line start (seen_run machine.now)) (seen_run machine.now) }
 {
-    if is_left_out(&machine.left_out, handle, label) {
-        return Err(faulty(
-            machine,
-            scope,
-            line,
-            FaultReason::StillOpen { name: label.name },
-        ));
+    if is_left_out(&machine.left_out, start) {
+        return Err(still_open(machine, scope, line, start));
     }
     Ok(())
 }
@@ -136,28 +207,37 @@ pub(crate) fn guard_request(
     machine: &Machine,
     scope: Scope,
     line: u32,
-    request: Option<Label>,
+    label: Option<Label>,
 ) -> Result<(), Stop>
-    ensures { HasOutcome result (guarded_request scope line request (seen_run machine.now)) (seen_run machine.now) }
+    ensures { HasOutcome result (guarded_request scope line label (seen_run machine.now)) (seen_run machine.now) }
 {
-    match request {
+    match label {
         None => Ok(()),
-        Some(label) => guard(machine, scope, line, false, label),
+        Some(label) => guard(machine, scope, line, started_request(label)),
     }
 }
 
-/// Leaves a start out, and remembers its request or handle.
+/// Whether a call made this start, and no call ended it yet.
+fn is_open(opened: &IndexMap<Start, bool>, start: Start) -> bool
+    ensures { result ≡ is_open opened.now.entries start }
+{
+    opened.get(&start).copied().unwrap_or(false)
+}
+
+/// Leaves a start out, and remembers it. It is refused where one of its name is open.
 pub(crate) fn leave(
     machine: &mut Machine,
+    scope: Scope,
     line: u32,
-    handle: bool,
-    label: Label,
+    start: Start,
 ) -> Result<(), Stop>
-    ensures { HasOutcome result (left line handle label (seen_run machine.old)) (seen_run machine.new) }
+    ensures { HasOutcome result (left scope line start (seen_run machine.old)) (seen_run machine.new) }
 {
+    if is_open(&machine.opened, start) {
+        return Err(still_open(machine, scope, line, start));
+    }
     machine.left_out.push(LeftOut {
-        handle,
-        label,
+        start,
         line,
         turn: machine.turn,
     })?;
@@ -167,14 +247,15 @@ pub(crate) fn leave(
 /// Leaves a call out, and remembers its request where it has one.
 pub(crate) fn leave_request(
     machine: &mut Machine,
+    scope: Scope,
     line: u32,
-    request: Option<Label>,
+    label: Option<Label>,
 ) -> Result<(), Stop>
-    ensures { HasOutcome result (left_request line request (seen_run machine.old)) (seen_run machine.new) }
+    ensures { HasOutcome result (left_request scope line label (seen_run machine.old)) (seen_run machine.new) }
 {
-    match request {
+    match label {
         None => Ok(()),
-        Some(label) => leave(machine, line, false, label),
+        Some(label) => leave(machine, scope, line, started_request(label)),
     }
 }
 

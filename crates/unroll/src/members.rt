@@ -1,10 +1,10 @@
-//! The groups of collective calls: which ranks belong to one, and which calls it made before.
+//! The groups of collective calls: which ranks belong to one, and how many calls one made before.
 
-ghost use Rattle.std.specs.Prelude.{◌≡◌, ◌<◌, IfOk};
+ghost use Rattle.std.specs.Prelude.{◌≡◌, ◌≤◌, ◌<◌, IfOk, option_copied};
 ghost use Rattle.std.specs.List.{filter};
-ghost use Rattle.unroll.specs.Groups.{is_member, is_other_member, others, same_group, is_of, earlier_meetings, root_in, before, member_after};
+ghost use Rattle.unroll.specs.Groups.{is_member, is_other_member, others, alike, calls_so_far, root_in, before, member_after};
 
-use crate::call::{Group, Meeting};
+use crate::call::{Attendance, Group};
 use std::alloc::{AllocError, Global};
 
 /// Whether the rank is one of the group.
@@ -44,27 +44,29 @@ pub(crate) fn others(
         .collect(alloc)
 }
 
-/// Whether two groups are written alike.
-fn same_group(a: Group, b: Group) -> bool
-    ensures { result ≡ same_group a b }
+/// The spelling of a group's ranks that all groups with these ranks have: to the last one of them,
+/// and by steps of 1 where there is one alone.
+pub(crate) fn alike(group: Group) -> Group
+    requires some { group.first ≤ group.last }
+    requires rises { 0 < group.step }
+    ensures { result ≡ alike group }
 {
-    a.first == b.first && a.last == b.last && a.step == b.step
+    let last = group.last - (group.last - group.first) % group.step;
+    Group {
+        first: group.first,
+        last,
+        step: if last == group.first { 1 } else { group.step },
+    }
 }
 
-/// Whether the collective call was made with this communicator and group.
-fn is_of(meeting: Meeting, communicator: u32, group: Group) -> bool
-    ensures { result ≡ is_of meeting communicator group }
+/// How many collective calls a rank made so far, by who attended last.
+pub(crate) fn calls_so_far(attendance: Option<&Attendance>, rank: u32) -> u32
+    ensures { result ≡ calls_so_far (option_copied attendance.entry) rank }
 {
-    meeting.communicator == communicator && same_group(meeting.group, group)
-}
-
-/// How many of the collective calls were made with this communicator and group.
-pub(crate) fn earlier(met: &[Meeting], communicator: u32, group: Group) -> usize
-    ensures { result ≡ earlier_meetings met.now communicator group }
-{
-    met.iter()
-        .filter(|meeting| is_of(**meeting, communicator, group))
-        .count()
+    match attendance {
+        None => 0,
+        Some(last) => { if last.rank == rank { last.calls } else { 0 } }
+    }
 }
 
 /// The root: the first rank of the group, where none is named.

@@ -1,7 +1,7 @@
 //! The parts of a call's arguments: numbers, tags, peers, labels and groups.
 
 ghost use Rattle.std.specs.Prelude.{◌≡◌};
-ghost use Rattle.unroll.specs.Arguments.{scoped_number, found, some, tag_of, optional_tag, scoped_communicator, peered, peer_of, scoped_source, index_of, label_of, optional_label, scoped_rank, root_of, stepped, scoped_step, group_of, collective_communicator};
+ghost use Rattle.unroll.specs.Arguments.{scoped_number, found, some, tag_of, optional_tag, scoped_communicator, peered, peer_of, scoped_source, index_of, label_of, optional_label, scoped_rank, root_of, stepped, scoped_step, group_of};
 
 use crate::arithmetic::below;
 use crate::call::{Group, Label};
@@ -275,27 +275,5 @@ pub(crate) fn group(
             let step = step(&form.step, rank, size, values)?;
             Ok(Group { first, last, step })
         }
-    }
-}
-
-/// The communicator that the messages of a collective call have: 128 above its own, so no receive
-/// of the text takes them.
-pub(crate) fn collective_communicator(
-    expression: &Option<Expression>,
-    rank: u32,
-    size: u32,
-    values: &[Option<Value>],
-) -> Result<u32, FaultReason>
-    ensures { result ≡ collective_communicator expression.now rank size values.now }
-{
-    match expression {
-        None => Ok(128),
-        Some(expression) => match number(expression, rank, size, values) {
-            Err(reason) => Err(reason),
-            Ok(communicator) => match below(communicator, 128) {
-                None => Err(FaultReason::CommunicatorRange { communicator }),
-                Some(own) => Ok(128 + own),
-            },
-        },
     }
 }

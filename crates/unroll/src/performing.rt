@@ -7,7 +7,9 @@ ghost use Rattle.unroll.specs.Runs.{call_put, matched, sent, received, matched_p
 use crate::arguments::Prepared;
 use crate::call::{Label, UnrolledCall};
 use crate::collecting::perform_collective;
-use crate::machine::{Machine, Scope, Stop, guard, guard_request, leave, leave_request, put};
+use crate::machine::{
+    Machine, Scope, Stop, guard, guard_request, leave, leave_request, put, started_handle,
+};
 use crate::members::root_in;
 use crate::waiting::{perform_matched, perform_wait};
 use spmd_tree::SendMode;
@@ -27,7 +29,7 @@ fn perform_send(
 {
     guard_request(machine, scope, line, request)?;
     let Some(destination) = destination else {
-        return leave_request(machine, line, request);
+        return leave_request(machine, scope, line, request);
     };
     let call = UnrolledCall::Send {
         mode,
@@ -53,7 +55,7 @@ fn perform_receive(
 {
     guard_request(machine, scope, line, request)?;
     let Some(source) = source else {
-        return leave_request(machine, line, request);
+        return leave_request(machine, scope, line, request);
     };
     let call = UnrolledCall::Receive {
         request,
@@ -76,9 +78,9 @@ fn perform_matched_probe(
 ) -> Result<(), Stop>
     ensures { HasOutcome result (matched_probed scope line handle source tag communicator (seen_run machine.old)) (seen_run machine.new) }
 {
-    guard(machine, scope, line, true, handle)?;
+    guard(machine, scope, line, started_handle(handle))?;
     let Some(source) = source else {
-        return leave(machine, line, true, handle);
+        return leave(machine, scope, line, started_handle(handle));
     };
     let call = UnrolledCall::MatchedProbe {
         handle,

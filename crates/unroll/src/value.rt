@@ -58,4 +58,7 @@ pub enum FaultReason {
     /// More than 2^26 collective calls of a rank with one communicator and group: there is no tag
     /// below 2^31 left for their messages.
     TooManyCollectives,
+    /// More than 2^31 - 128 pairs of a communicator and a group: there is no communicator below
+    /// 2^31 left for their messages.
+    TooManyGroups,
 }

@@ -5,7 +5,9 @@ ghost use Rattle.unroll.specs.parts.Runs.{HasOutcome, seen_run};
 ghost use Rattle.unroll.specs.Runs.{call_put, matched, waited, wait_part, still_first};
 
 use crate::call::{Label, UnrolledCall};
-use crate::machine::{Machine, Scope, Stop, forget, is_left_out, leave_request, put};
+use crate::machine::{
+    Machine, Scope, Stop, forget, is_left_out, leave_request, put, started_handle, started_request,
+};
 
 /// Receives on a handle. Where its matched probe was left out the receive is left out too, and its
 /// request is remembered.
@@ -18,9 +20,9 @@ pub(crate) fn perform_matched(
 ) -> Result<(), Stop>
     ensures { HasOutcome result (matched scope line request handle (seen_run machine.old)) (seen_run machine.new) }
 {
-    if is_left_out(&machine.left_out, true, handle) {
-        forget(&mut machine.left_out, true, handle);
-        return leave_request(machine, line, request);
+    if is_left_out(&machine.left_out, started_handle(handle)) {
+        forget(&mut machine.left_out, started_handle(handle));
+        return leave_request(machine, scope, line, request);
     }
     put(
         machine,
@@ -39,8 +41,8 @@ pub(crate) fn perform_wait(
 ) -> Result<(), Stop>
     ensures { HasOutcome result (waited scope line request (seen_run machine.old)) (seen_run machine.new) }
 {
-    if is_left_out(&machine.left_out, false, request) {
-        forget(&mut machine.left_out, false, request);
+    if is_left_out(&machine.left_out, started_request(request)) {
+        forget(&mut machine.left_out, started_request(request));
         return Ok(());
     }
     put(machine, scope, line, UnrolledCall::Wait { request })
@@ -58,8 +60,8 @@ pub(crate) fn wait_part(
     ensures run { HasOutcome result (wait_part scope line first request (seen_run machine.old)) (seen_run machine.new) }
     ensures first { IfOk result (λ next. next ≡ still_first first request (seen_run machine.old)) }
 {
-    if is_left_out(&machine.left_out, false, request) {
-        forget(&mut machine.left_out, false, request);
+    if is_left_out(&machine.left_out, started_request(request)) {
+        forget(&mut machine.left_out, started_request(request));
         return Ok(first);
     }
     if first {

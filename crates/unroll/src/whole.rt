@@ -9,6 +9,7 @@ use crate::call::{Fault, Placed, Turn};
 use crate::machine::{Machine, Scope, Stop};
 use crate::statement::run;
 use crate::value::{FaultReason, Value};
+use indexmap::{IndexMap, IndexSet};
 use spmd_tree::SpmdStatement;
 use std::alloc::Global;
 
@@ -50,7 +51,7 @@ fn run_rank(
     machine.values.clear();
     machine.values.extend_from_slice(settings)?;
     machine.left_out.clear();
-    machine.met.clear();
+    machine.opened.clear();
     machine.turn = 0;
     run(machine, scope, program)?;
     match machine.left_out.first() {
@@ -60,7 +61,7 @@ fn run_rank(
             line: left_out.line,
             turn: left_out.turn,
             reason: FaultReason::NeverEnded {
-                name: left_out.label.name,
+                name: left_out.start.label.name,
             },
         })),
     }
@@ -96,7 +97,9 @@ pub fn unroll(
         alloc,
         values: Vec::new(alloc),
         left_out: Vec::new(alloc),
-        met: Vec::new(alloc),
+        opened: IndexMap::new(alloc),
+        meetings: IndexSet::new(alloc),
+        attended: Vec::new(alloc),
         calls: Vec::new(alloc),
         turns: Vec::new(alloc),
         turn: 0,

@@ -8,7 +8,7 @@ use Rattle.unroll.specs.declared.machine.Stop.TheVariants.{Memory, Faulty}
 use Rattle.unroll.specs.Runs.{Done, Failed, Outcome, TextRun, fault_on_line}
 
 abbrev pub seen_run : Machine → TextRun
-seen_run m = record { values = m.values.items; left_out = m.left_out.items; met = m.met.items; calls = m.calls.items; turns = m.turns.items; turn = m.turn }
+seen_run m = record { values = m.values.items; left_out = m.left_out.items; opened = m.opened.entries; meetings = m.meetings.keys; attended = m.attended.items; calls = m.calls.items; turns = m.turns.items; turn = m.turn }
 
 abbrev pub faulty : Scope → ℕ → FaultReason → TextRun → Stop
 faulty scope line why run = Faulty (fault_on_line scope line why run)
