@@ -1,9 +1,10 @@
 -- Who is matched with whom at the end of a run, and in which channel.
-use Rattle.std.proofs.Common.{◌≡◌, ℕ, zero, suc, ◌+◌, ◌<◌, ◌≤◌, inl, inr, true, false, cond, not, nat_lt, List, [], ◌∷◌, Option, Some, None, is_some, length, get_or, slice_get, slice_index, refl, sym, ap, ◌∙◌, arith}
-use Rattle.std.specs.List.{count_by}
+use Rattle.std.proofs.Common.{◌≡◌, ℕ, zero, suc, ◌+◌, ◌<◌, ◌≤◌, inl, inr, Bool, true, false, cond, not, nat_lt, List, [], ◌∷◌, Option, Some, None, is_some, length, get_or, slice_get, slice_index, refl, sym, ap, subst, ◌∙◌, arith}
+use Rattle.std.specs.List.{count_by, filter}
 use Rattle.std.proofs.lemmas.Bool.{cases_lt, cases_eq, eq-eqb}
 use Rattle.std.proofs.lemmas.Bool.Decides.{nat_tests}
-use Rattle.std.proofs.lemmas.List.Sums.{sum_by-cons}
+use Rattle.std.proofs.lemmas.List.Filters.{length-filter_both}
+use Rattle.std.proofs.lemmas.List.Sums.{length-filter, sum_by-cons}
 use Rattle.std.proofs.lemmas.Option.{slice_get_within, slice_get-get_or}
 use Rattle.calltext.proofs.Conjunctions.{and_true}
 use Rattle.callorder.proofs.Lookups.{slice_get-none_past}
@@ -22,11 +23,10 @@ use Rattle.run_laws.specs.Laws.{IsInRankOrder}
 use Rattle.races.proofs.Steps.{same_some, partner_from, within_issued}
 use Rattle.races.proofs.Kept.{Kept, takes_fit, takes_made}
 use Rattle.races.proofs.Passing.{kept_run}
-use Rattle.races.proofs.Pigeons.{first_off}
 use Rattle.races.proofs.OneWay.{pattern_found}
 use Rattle.balance.specs.declared.channels.Channel.{Channel}
 use Rattle.balance.specs.Balance.{taken_by, channel_taken, channel_sent, channel_of_call, channel_at, is_send_call, is_send_at}
-use Rattle.balance.specs.Laws.{MissingSendsStick, MissingTakersLeaveMessages}
+use Rattle.balance.specs.Laws.{MissingSendsStick, MissingTakersLeaveMessages, is_unmatched}
 use Rattle.balance.proofs.Numbers.{no_more}
 use Rattle.balance.proofs.Closing.{channels_are_closed, taker_kind}
 
@@ -189,19 +189,72 @@ taken_there p e channel send kept own on matched =
           record { taker = w.0; own = sym (channels_are_closed p send w.0 taken) ∙ own; takes = (fit_sides p send w.0 fit).1; back = kept.both send w.0 fit w.1 }
     ]
 
-pub missing_takers_leave_messages : MissingTakersLeaveMessages
-missing_takers_leave_messages p sides steps order wrong fewer finished =
-    elim (first_off (λ (i : ℕ). is_matched (after_all (opening p) steps) (get_or sides.sends.items i 0)) (length sides.sends.items)) [
-      | inr w ↦
-          (w.at, get_or sides.sends.items w.at 0, slice_get-get_or sides.sends.items w.at 0 w.below, λ on. let off = w.off in cc)
-      | inl all ↦ absurd (omega (arith, fewer, no_more (length sides.sends.items) (length sides.takers.items) (Goes (after_all (opening p) steps) sides.sends.items sides.takers.items) (to all) (λ i j k l m v w. go_once (after_all (opening p) steps) sides.sends.items sides.takers.items wrong.are.sends.once i j k v w)))
-    ]
+-- ---- places of a list none of which stands twice
+
+Once : List ℕ → Type 0
+Once xs = (i j c : ℕ) → slice_get xs i ≡ Some c → slice_get xs j ≡ Some c → i ≡ j
+
+-- where an item of those that pass a test stands
+record StandsAt (test : ℕ → Bool) (xs : List ℕ) (c : ℕ) : Type 0 where
+  at : ℕ
+  there : slice_get xs at ≡ Some c
+  passes : test c ≡ true
+
+stands : (test : ℕ → Bool) (xs : List ℕ) (i c : ℕ) → slice_get (filter test xs) i ≡ Some c → StandsAt test xs c
+stands test [] i c there = absurd (cc)
+stands test (x ∷ xs) i c there = by (test x) refl
   where
-    to : ((i : ℕ) → i < length sides.sends.items → is_matched (after_all (opening p) steps) (get_or sides.sends.items i 0) ≡ true) → (i : ℕ) → i < length sides.sends.items → (k : ℕ) × (k < length sides.takers.items) × Goes (after_all (opening p) steps) sides.sends.items sides.takers.items i k
-    to all i below =
-        let s = get_or sides.sends.items i 0 in
-        let at : slice_get sides.sends.items i ≡ Some s = slice_get-get_or sides.sends.items i 0 below in
-        let of = wrong.are.sends.sound i s at in
-        let t = taken_there p (after_all (opening p) steps) wrong.channel s (kept_run p steps order finished.run) of.0 of.1 (all i below) in
+    by : (b : Bool) → test x ≡ b → StandsAt test (x ∷ xs) c
+    by true e = here i (ap (λ (b : Bool). slice_get (cond b (x ∷ filter test xs) (filter test xs)) i) (sym e) ∙ there)
+      where
+        here : (k : ℕ) → slice_get (x ∷ filter test xs) k ≡ Some c → StandsAt test (x ∷ xs) c
+        here zero is = record { at = 0; there = is; passes = ap test (sym (same_some x c is)) ∙ e }
+        here (suc k) is = let w = stands test xs k c is in record { at = suc w.at; there = w.there; passes = w.passes }
+    by false e =
+        let w = stands test xs i c (ap (λ (b : Bool). slice_get (cond b (x ∷ filter test xs) (filter test xs)) i) (sym e) ∙ there) in
+        record { at = suc w.at; there = w.there; passes = w.passes }
+
+once_of_rest : (x : ℕ) (xs : List ℕ) → Once (x ∷ xs) → Once xs
+once_of_rest x xs once i j c a b = let e = once (suc i) (suc j) c a b in omega (arith, e)
+
+filter_once : (test : ℕ → Bool) (xs : List ℕ) → Once xs → Once (filter test xs)
+filter_once test [] once i j c a b = absurd (cc)
+filter_once test (x ∷ xs) once = by (test x) refl
+  where
+    rest : Once (filter test xs)
+    rest = filter_once test xs (once_of_rest x xs once)
+
+    first : (k : ℕ) → slice_get (filter test xs) k ≡ Some x → ⊥
+    first k there = let w = stands test xs k x there in let e = once 0 (suc w.at) x refl w.there in omega (arith, e)
+
+    both : Once (x ∷ filter test xs)
+    both zero zero c a b = refl
+    both zero (suc j) c a b = absurd (first j (b ∙ sym a))
+    both (suc i) zero c a b = absurd (first i (a ∙ sym b))
+    both (suc i) (suc j) c a b = ap suc (rest i j c a b)
+
+    by : (b : Bool) → test x ≡ b → Once (filter test (x ∷ xs))
+    by true e = subst (λ (b : Bool). Once (cond b (x ∷ filter test xs) (filter test xs))) (sym e) both
+    by false e = subst (λ (b : Bool). Once (cond b (x ∷ filter test xs) (filter test xs))) (sym e) rest
+
+pub missing_takers_leave_messages : MissingTakersLeaveMessages
+missing_takers_leave_messages p sides steps order wrong run =
+    let fewer = no_more (length firsts) (length sides.takers.items) (Goes e firsts sides.takers.items) to
+        (λ i j k l m v w. go_once e firsts sides.takers.items (filter_once (is_matched e) sides.sends.items wrong.are.sends.once) i j k v w) in
+    omega (arith, fewer, length-filter_both (is_matched e) (is_unmatched e) (λ (x : ℕ). refl) sides.sends.items, length-filter (is_unmatched e) sides.sends.items)
+  where
+    e : Configuration
+    e = after_all (opening p) steps
+
+    firsts : List ℕ
+    firsts = filter (is_matched e) sides.sends.items
+
+    to : (i : ℕ) → i < length firsts → (k : ℕ) × (k < length sides.takers.items) × Goes e firsts sides.takers.items i k
+    to i below =
+        let s = get_or firsts i 0 in
+        let at : slice_get firsts i ≡ Some s = slice_get-get_or firsts i 0 below in
+        let stood = stands (is_matched e) sides.sends.items i s at in
+        let of = wrong.are.sends.sound stood.at s stood.there in
+        let t = taken_there p e wrong.channel s (kept_run p steps order run) of.0 of.1 stood.passes in
         let there = wrong.are.takers.all t.taker (t.own, t.takes) in
         (there.0, slice_get_within sides.takers.items there.0 t.taker there.1, record { first = s; second = t.taker; at_first = at; at_second = there.1; partner = t.back })

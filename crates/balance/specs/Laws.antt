@@ -1,12 +1,13 @@
 -- What it means that a channel's sends and takers differ in number.
-use Rattle.std.specs.Prelude.{◌≡◌, ◌<◌, ℕ, IsTrue, List, length, Some, slice_get}
+use Rattle.std.specs.Prelude.{◌≡◌, ◌<◌, ◌≤◌, ◌+◌, ℕ, Bool, IsTrue, List, length, not, Some}
+use Rattle.std.specs.List.{count_by}
 use Rattle.calltext.specs.declared.limits.Limits.{Limits}
 use Rattle.callorder.specs.declared.calls.Call.{Call}
 use Rattle.callorder.specs.ProgramRules.{IsProgramWithin}
 use Rattle.callorder.specs.Programs.{MpiProgram, call_at, takes}
 use Rattle.semantics.specs.declared.state.Step.{Step}
 use Rattle.semantics.specs.RunEnds.{IsFinishedRun}
-use Rattle.semantics.specs.Machine.{after_all, is_matched, opening}
+use Rattle.semantics.specs.Machine.{Configuration, IsRun, after_all, is_matched, opening}
 use Rattle.races.specs.Races.{StartsAreWaitedFor}
 use Rattle.run_laws.specs.Laws.{IsInRankOrder}
 use Rattle.balance.specs.declared.counting.Imbalance.{Imbalance}
@@ -30,10 +31,12 @@ MissingSendsStick =
     (p : MpiProgram) (sides : Imbalance) (steps : List Step) → IsInRankOrder p → StartsAreWaitedFor p → RanksExist p → IsImbalance p sides
     → length sides.sends.items < length sides.takers.items → IsFinishedRun p steps → ⊥
 
--- Where a channel has more sends than takers, in each run that finishes some message of it is taken
--- by nobody.
+abbrev pub is_unmatched : Configuration → ℕ → Bool
+is_unmatched e send = not (is_matched e send)
+
+-- Where a channel has more sends than takers, in each run, however far it goes, at least as many
+-- messages of it as there are sends more are taken by nobody.
 abbrev pub MissingTakersLeaveMessages : Type 0
 MissingTakersLeaveMessages =
-    (p : MpiProgram) (sides : Imbalance) (steps : List Step) → IsInRankOrder p → IsImbalance p sides
-    → length sides.takers.items < length sides.sends.items → IsFinishedRun p steps
-    → (i send : ℕ) × (slice_get sides.sends.items i ≡ Some send) × (IsTrue (is_matched (after_all (opening p) steps) send) → ⊥)
+    (p : MpiProgram) (sides : Imbalance) (steps : List Step) → IsInRankOrder p → IsImbalance p sides → IsRun p (opening p) steps
+    → length sides.sends.items ≤ length sides.takers.items + count_by (is_unmatched (after_all (opening p) steps)) sides.sends.items

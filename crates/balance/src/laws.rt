@@ -18,8 +18,8 @@ pub fn missing_sends_stick()
     ensures { MissingSendsStick }
 {}
 
-/// Where a channel has more sends than takers, each run that finishes leaves a message of it that
-/// nobody takes.
+/// Where a channel has more sends than takers, each run leaves as many of its messages at least as
+/// there are sends more.
 pub fn missing_takers_leave_messages()
     ensures { MissingTakersLeaveMessages }
 {}

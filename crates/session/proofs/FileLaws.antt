@@ -135,7 +135,7 @@ shrunk_hangs tells before after p out map text status program (given, all, inr (
     absurd (undecided_untold false refused.0 text status refused.3 says)
 
 -- what was written before the map stays, where the map is written elsewhere
-map_keeps : (between after : List ℕ → Option (List ℕ)) (map : Option (List ℕ)) (file : List ℕ) → ChangesAtMost map between after → (map ≡ Some file → ⊥) → after file ≡ between file
+pub map_keeps : (between after : List ℕ → Option (List ℕ)) (map : Option (List ℕ)) (file : List ℕ) → ChangesAtMost map between after → (map ≡ Some file → ⊥) → after file ≡ between file
 map_keeps between after None file kept other = ap (λ (held : List ℕ → Option (List ℕ)). held file) kept
 map_keeps between after (Some places) file kept other = kept file (λ same. other (ap Some (sym same)))
 

@@ -6,13 +6,9 @@ use Rattle.session.specs.Runs.{PrintsAlone, SessionRun}
 use Rattle.session.specs.Unrolling.{barriers_in}
 use Rattle.session.specs.UnrollLaws.{UnrolledTextIsPrinted}
 use Rattle.session.proofs.TaskEnds.{task_ends}
+use Rattle.session.proofs.FileLaws.{map_keeps}
 use Rattle.session.proofs.RunLaws.{page_printed}
 use Rattle.session.proofs.UnrolledPages.{handed_over, own_status, refusal_told}
-
--- no map is made where none is wanted
-no_map : (p source : List ℕ) (ranks : ℕ) (settings : List (List ℕ)) (barriers : Bool) (program : List ℕ) (made : Option (List ℕ))
-    → IsUnrolling p source ranks settings barriers false program made → made ≡ None
-no_map p source ranks settings barriers program made is = is.made.is_map
 
 -- the map that was made, and that the file holds
 one_map : (p source : List ℕ) (ranks : ℕ) (settings : List (List ℕ)) (barriers : Bool) (program : List ℕ) (made : Option (List ℕ))
@@ -34,17 +30,16 @@ unrolled = record {
       let page = page_printed 0 (omega arith) (inl end.2) zero in
       let over = handed_over run.tells.writes run.before run.after p ranks settings end.0 None map source page.0 page.1 held in
       (end.0, end.1, over.program, over.made, over.unrolled, subst (λ (text : List ℕ). PrintsAlone run text 0) over.page page.2);
-  written = λ run p file ranks settings way source ends asks writes held zero.
+  written = λ run p file ranks settings way map source ends asks writes other held zero.
       let end = way_end run way (task_ends run ends asks) 0 zero (λ e. omega (arith, e)) (λ e. omega (arith, e)) in
       let page = page_printed 0 (omega arith) (inl end.2) zero in
-      let over = handed_over run.tells.writes run.before run.after p ranks settings end.0 (Some file) None source page.0 page.1 held in
-      let none : over.made ≡ None = no_map p source ranks settings end.0 over.program over.made over.unrolled in
-      let same : run.after ≡ over.written.0 = over.written.2 [] none in (
+      let over = handed_over run.tells.writes run.before run.after p ranks settings end.0 (Some file) map source page.0 page.1 held in (
         end.0,
         end.1,
         over.program,
-        subst (λ (m : Option (List ℕ)). IsUnrolling p source ranks settings end.0 false over.program m) none over.unrolled,
-        ap (λ (held : List ℕ → Option (List ℕ)). held file) same ∙ over.written.1 writes,
+        over.made,
+        over.unrolled,
+        map_keeps over.written.0 run.after map file over.written.2 other ∙ over.written.1 writes,
       );
   mapped = λ run p file ranks settings way out source ends asks writes held zero.
       let end = way_end run way (task_ends run ends asks) 0 zero (λ e. omega (arith, e)) (λ e. omega (arith, e)) in
@@ -56,7 +51,7 @@ unrolled = record {
         over.program,
         made.0,
         subst (λ (m : Option (List ℕ)). IsUnrolling p source ranks settings end.0 true over.program m) made.1 over.unrolled,
-        over.written.2 made.0 made.1 writes,
+        over.written.3 made.0 made.1 writes,
       );
   refused = λ run p ranks settings way out map source ends asks held three.
       let end = way_end run way (task_ends run ends asks) 3 three (λ e. omega (arith, e)) (λ e. omega (arith, e)) in

@@ -10,7 +10,8 @@ use Rattle.session.specs.Unrolling.{barriers_in, refused_text}
 -- A run of `unroll` with the status 0 printed the text of the program that the SPMD text of the
 -- file is unrolled to: its call lines are the calls of the meaning of that text, with these
 -- settings and for so many ranks. Where a file is named for the program, it holds that text
--- afterwards, if its set tells what is written; and one that is named for the map holds that. A run
+-- afterwards, if its set tells what is written, unless the map goes to the same file; and one that
+-- is named for the map holds that. A run
 -- with the status 3 told what is wrong with the SPMD text, and no file has changed; and none ends
 -- with the status 1 or 2.
 pub record UnrolledTextIsPrinted : Type 0 where
@@ -18,10 +19,11 @@ pub record UnrolledTextIsPrinted : Type 0 where
       → SessionEnds run → AskFor run.words (to_unroll p ranks settings way None map) → run.before p ≡ Some source → run.status ≡ 0
       → (barriers : Bool) × (barriers_in way ≡ Some barriers)
       × (program : List ℕ) × (made : Option (List ℕ)) × IsUnrolling p source ranks settings barriers (is_some map) program made × PrintsAlone run program 0
-  pub written : (run : SessionRun) (p file : Text) (ranks : ℕ) (settings : List Text) (way : Option Text) (source : List ℕ)
-      → SessionEnds run → AskFor run.words (to_unroll p ranks settings way (Some file) None) → IsTrue run.tells.writes → run.before p ≡ Some source → run.status ≡ 0
+  pub written : (run : SessionRun) (p file : Text) (ranks : ℕ) (settings : List Text) (way map : Option Text) (source : List ℕ)
+      → SessionEnds run → AskFor run.words (to_unroll p ranks settings way (Some file) map) → IsTrue run.tells.writes → map ≢ Some file
+      → run.before p ≡ Some source → run.status ≡ 0
       → (barriers : Bool) × (barriers_in way ≡ Some barriers)
-      × (program : List ℕ) × IsUnrolling p source ranks settings barriers false program None × (run.after file ≡ Some program)
+      × (program : List ℕ) × (made : Option (List ℕ)) × IsUnrolling p source ranks settings barriers (is_some map) program made × (run.after file ≡ Some program)
   pub mapped : (run : SessionRun) (p file : Text) (ranks : ℕ) (settings : List Text) (way out : Option Text) (source : List ℕ)
       → SessionEnds run → AskFor run.words (to_unroll p ranks settings way out (Some file)) → IsTrue run.tells.writes → run.before p ≡ Some source → run.status ≡ 0
       → (barriers : Bool) × (barriers_in way ≡ Some barriers)

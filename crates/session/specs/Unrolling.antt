@@ -3,7 +3,7 @@ use Rattle.std.specs.Prelude.{◌≡◌, ◌⊎◌, ℕ, Bool, true, false, List
 use Rattle.std.specs.Str.{bytes_eq}
 use Rattle.files.specs.Contents.{AreAll}
 use Rattle.spmd_program.specs.Unrolling.{IsMapWanted, IsRefusal, IsUnrolling}
-use Rattle.session.specs.Pages.{IsProgramFile, IsWritten}
+use Rattle.session.specs.Pages.{ChangesAtMost, IsProgramFile, IsWritten}
 use Rattle.session.specs.declared.commands.Stop.{Stop}
 use Rattle.session.specs.declared.commands.Stop.TheVariants as stop
 
@@ -30,10 +30,10 @@ IsFileOf file stop.Memory = ⊥
 IsFileOf file (stop.File path) = file ≡ Some path.now
 
 -- the program is written to the file that is named for it, and then its map, where it was made, to
--- the file that is named for that
+-- the file that is named for that, which alone changes then
 abbrev pub AreWritten : Bool → (List ℕ → Option (List ℕ)) → (List ℕ → Option (List ℕ)) → Option (List ℕ) → Option (List ℕ) → List ℕ → Option (List ℕ) → Type 0
 AreWritten tells old new out map program made =
-    (between : List ℕ → Option (List ℕ)) × IsWritten tells old between out program
+    (between : List ℕ → Option (List ℕ)) × IsWritten tells old between out program × ChangesAtMost map between new
     × ((places : List ℕ) → IsMapWanted (is_some map) places made → IsWritten tells between new map places)
 
 -- the text of the program is the page; or it is written to the file that is named for it, and the

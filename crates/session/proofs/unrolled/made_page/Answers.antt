@@ -11,6 +11,7 @@ returns-in_ok-write_map-in-None-clause-written g c =
     let held = g.F.FileSet.held c.args.files.now in (
       held,
       subst (λ (out : Option (Bor (List ℕ))). IsWritten g.F.FileSet.tells_written held held (path_of out) c.args.made.program.items) (sym c.in-None.is) refl,
+      c.write_map-in-None.ensures.others,
       c.in_ok-write_map-in-None.ensures.written,
     )
 
@@ -21,5 +22,6 @@ returns-in_ok-write_map-in-Some-clause-written g c =
       between,
       subst (λ (out : Option (Bor (List ℕ))). IsWritten g.F.FileSet.tells_written held between (path_of out) c.args.made.program.items) (sym c.in-Some.is)
           (λ tells. c.in_ok-write-in-Some.ensures.taken tells ∙ ap Some c.of.ensures),
+      c.write_map-in-Some.ensures.others,
       c.in_ok-write_map-in-Some.ensures.written,
     )
