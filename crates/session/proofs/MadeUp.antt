@@ -1,5 +1,6 @@
 -- Phases that are dealt, one after another.
-use Rattle.std.proofs.Common.{◌≡◌, ◌∙◌, ℕ, ◌+◌, ◌<◌, ◌≤◌, List, [], ◌∷◌, ◌++◌, Some, length, take, get_or, slice_get, arith, inl, inr, refl, sym, subst, ap, length-append}
+use Rattle.std.proofs.Common.{◌≡◌, ◌∙◌, ℕ, ◌+◌, ◌<◌, ◌≤◌, Bool, true, List, [], ◌∷◌, ◌++◌, Option, Some, length, take, get_or, slice_get, arith, inl, inr, refl, sym, subst, ap, length-append}
+use Rattle.std.specs.Borrow.{Bor}
 use Rattle.std.specs.Global.{Vec}
 use Rattle.std.proofs.lemmas.Bool.{cases_lt}
 use Rattle.std.proofs.lemmas.List.{take_more}
@@ -7,8 +8,9 @@ use Rattle.std.proofs.lemmas.Option.{same_Some, slice_get_within}
 use Rattle.calltext.specs.Grammar.{long}
 use Rattle.callorder.specs.Programs.{MpiProgram}
 use Rattle.callorder.specs.Resolving.{IsTextOfWithin}
+use Rattle.interning.specs.Places.{IsNumbering}
 use Rattle.phases.specs.Rests.{IsRest, behind}
-use Rattle.session.specs.Phasing.{AreDealtInOrder, ArePrograms, IsDealt}
+use Rattle.session.specs.Phasing.{AreApart, AreDealtInOrder, ArePrograms, IsDealt}
 use Rattle.session.proofs.CutNames.{in_front}
 
 -- ---- the programs of texts
@@ -68,3 +70,22 @@ dealt_further programs p old next order place number inside is so_far one =
       dealt = subst (λ (numbers : List ℕ). AreDealtInOrder programs p numbers (behind so_far.q one.0)) (sym longer)
           (dealt_more programs number p so_far.q one.0 (take place order) so_far.dealt one.1);
     }
+
+-- ---- texts that differ
+
+-- so many of the texts are named, each by itself
+pub record AreNames (texts : List (Vec ℕ)) (count : ℕ) (names : List (Option (Bor (List ℕ)))) : Type 0 where
+  pub size : length names ≡ count
+  pub named : (k : ℕ) (text : Vec ℕ) → k < count → slice_get texts k ≡ Some text → (name : Bor (List ℕ)) × (slice_get names k ≡ Some (Some name)) × (name.now ≡ text.items)
+
+-- texts whose names have each a number of its own are apart
+pub apart_by : (eq : Bor (List ℕ) → Bor (List ℕ) → Bool) → ((a b : Bor (List ℕ)) → a.now ≡ b.now → eq a b ≡ true)
+    → (texts : List (Vec ℕ)) (names : List (Option (Bor (List ℕ)))) (numbers : List (Option ℕ)) (count : ℕ) → AreNames texts count names → length texts ≤ count → IsNumbering eq names numbers
+    → ((place : ℕ) → place < length numbers → slice_get numbers place ≡ Some (Some place)) → AreApart texts
+apart_by eq same texts names numbers count are all numbering own i j a b at_i at_j e =
+    let low : i < count = omega (arith, slice_get_within texts i a at_i, all) in
+    let high : j < count = omega (arith, slice_get_within texts j b at_j, all) in
+    let one = are.named i a low at_i in
+    let other = are.named j b high at_j in
+    (numbering.same i j one.0 other.0 i j one.1 other.1 (own i (omega (arith, numbering.size, are.size, low))) (own j (omega (arith, numbering.size, are.size, high)))).1
+    (same one.0 other.0 (one.2 ∙ e ∙ sym other.2))

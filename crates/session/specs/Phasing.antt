@@ -130,15 +130,20 @@ abbrev pub AreDealtInOrder : List MpiProgram → MpiProgram → List ℕ → Mpi
 AreDealtInOrder programs p [] q = p ≡ q
 AreDealtInOrder programs p (number ∷ order) q = (part : MpiProgram) × IsDealt programs number p part × AreDealtInOrder programs (behind p part) order q
 
+-- no two of the texts are the same
+abbrev pub AreApart : List (Vec ℕ) → Type 0
+AreApart texts = (i j : ℕ) (a b : Vec ℕ) → slice_get texts i ≡ Some a → slice_get texts j ≡ Some b → a.items ≡ b.items → i ≡ j
+
 -- The texts make up the program in this order, in which numbers are from 0, as phases are dealt by
 -- `join`: at each rank the calls of each are the first that those before it leave, and none is left
--- behind the last.
+-- behind the last; and the texts differ.
 pub record MakeUpProgram (p : MpiProgram) (phases : Phases) : Type 0 where
   pub programs : List MpiProgram
   pub left : MpiProgram
   pub texts : ArePrograms phases.texts.items programs
   pub dealt : AreDealtInOrder programs p phases.order.items left
   pub nothing : left.calls ≡ []
+  pub apart : AreApart phases.texts.items
 
 -- ---- the files of a cut
 

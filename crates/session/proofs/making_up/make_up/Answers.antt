@@ -1,7 +1,7 @@
 use Rattle.std.proofs.Common.{ℕ, List, subst}
 use Rattle.std.specs.Global.{Vec}
 use Rattle.callorder.specs.Programs.{MpiProgram}
-use Rattle.session.specs.Phasing.{AreDealtInOrder, ArePrograms}
+use Rattle.session.specs.Phasing.{AreApart, AreDealtInOrder, ArePrograms}
 use Rattle.session.proofs.making_up.make_up.Goals as goal
 
 pub returns : goal.returns
@@ -17,4 +17,5 @@ returns c =
           subst (λ (order : List ℕ). AreDealtInOrder programs p order left) c.deref-3.ensures.value
           (subst (λ (parts : List MpiProgram). AreDealtInOrder parts p c.deref-3.result.now left) c.deref-2.ensures.value dealt);
       nothing = nothing;
+      apart = subst AreApart c.deref-4.ensures.value c.in_ok-keep_apart.ensures;
     }
