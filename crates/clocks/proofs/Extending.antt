@@ -1,9 +1,9 @@
 -- Tables that know what another one does, and show more.
-use Rattle.std.proofs.Common.{◌≡◌, ℕ, ◌<◌, ◌≤◌, ◌⊎◌, inl, inr, Bool, true, false, ◌+◌, ◌==◌, List, slice_get, Option, Some, None, IfNone, IfSome, IfOk, Ok, Err, Result, refl, sym, ◌∙◌, subst, arith}
+use Rattle.std.proofs.Common.{◌≡◌, ℕ, ◌<◌, ◌≤◌, inl, inr, Bool, true, false, ◌+◌, ◌==◌, List, slice_get, Option, Some, None, IfNone, IfSome, IfOk, Ok, Err, Result, refl, sym, ◌∙◌, subst, arith}
 use Rattle.std.proofs.lemmas.Bool.{eq-eqb}
 use Rattle.std.specs.Option.{unwrap_or}
 use Rattle.calltext.proofs.Conjunctions.{and_both, and_true}
-use Rattle.callorder.specs.Programs.{MpiProgram, are_fit}
+use Rattle.callorder.specs.Programs.{MpiProgram}
 use Rattle.semantics.specs.Machine.{Configuration, is_issued, partner_of}
 use Rattle.races.specs.Blocks.{Blocks}
 use Rattle.races.specs.Tells.{Table, IsJustified}
@@ -15,7 +15,7 @@ use Rattle.clocks.specs.declared.race.Race.{Race}
 use Rattle.clocks.specs.parts.Clocks.{Numbering, AreTold, IsChecked, IsSingle}
 use Rattle.clocks.specs.Clocks.{IsNoRace, IsUnordered}
 use Rattle.clocks.specs.parts.Exact.{Asked, IsAsked, IsColumn, IsOrdered, IsUnorderedBy, KnowsNoMore, Extends, ShowsFrom}
-use Rattle.clocks.specs.parts.Finders.{IsListing, IsLookedAt, Listing, before_at}
+use Rattle.clocks.specs.parts.Finders.{AreNoRaces, IsLookedAt, IsParting}
 use Rattle.clocks.proofs.Counts.{same_some}
 use Rattle.clocks.proofs.Levels.{SamePartners, or_left, or_right, justified_as}
 use Rattle.clocks.proofs.Looks.{AreLookedAt, looked_between, one_more_place, one_more_send}
@@ -115,11 +115,11 @@ pub unissued_checked : (p : MpiProgram) (block : Blocks) (e sure : Configuration
 unissued_checked p block e sure ns told other off =
     shows_always p sure ns told (λ more. IsChecked p block e more other) (λ knows are issued f own found mine. absurd (cc (off, issued)))
 
--- the finders from one call up to another are shown where those of the list are
-pub between_shown : (p : MpiProgram) (block : Blocks) (e sure : Configuration) (ns : Numbering) (told : List Count) (l : Listing) (other first end low high n past : ℕ) → IsListing p block ns l → low ≡ before_at l.listed l.before first → high ≡ before_at l.listed l.before end → high ≤ past → ((knows : Table) → AreTold ns knows told → (i f : ℕ) → low ≤ i → i < n → slice_get l.listed i ≡ Some f → knows other f ≡ true) → ShowsFrom p sure ns told (λ more. AreLookedAt p block e more l.listed other n past) → ShowsFrom p sure ns told (λ more. (f own : ℕ) → first ≤ f → f < end → partner_of e f ≡ Some own → are_fit p own f ≡ true → IsNoRace p block e more f own other)
-between_shown p block e sure ns told l other first end low high n past listing low_is high_is all known =
-    shows_as p sure ns told (λ more. AreLookedAt p block e more l.listed other n past) (λ more. (f own : ℕ) → first ≤ f → f < end → partner_of e f ≡ Some own → are_fit p own f ≡ true → IsNoRace p block e more f own other)
-    (λ more are looked. looked_between p block e more ns l other first end low high n listing low_is high_is (known more are) (λ i f own from below. looked i f own from (omega (arith, below, all))))
+-- the finders of a list from one call up to another are shown where those of its places are
+pub between_shown : (p : MpiProgram) (block : Blocks) (e sure : Configuration) (ns : Numbering) (told : List Count) (listed : List ℕ) (other first end low high n past : ℕ) → IsParting listed first low → IsParting listed end high → high ≤ past → ((knows : Table) → AreTold ns knows told → (i f : ℕ) → low ≤ i → i < n → slice_get listed i ≡ Some f → knows other f ≡ true) → ShowsFrom p sure ns told (λ more. AreLookedAt p block e more listed other n past) → ShowsFrom p sure ns told (AreNoRaces p block e listed first end other)
+between_shown p block e sure ns told listed other first end low high n past at_first at_end all known =
+    shows_as p sure ns told (λ more. AreLookedAt p block e more listed other n past) (AreNoRaces p block e listed first end other)
+    (λ more are looked. looked_between p block e more listed other first end low high n past at_first at_end all (known more are) looked)
 
 -- ---- the same partners
 

@@ -8,14 +8,19 @@ use Rattle.callorder.specs.declared.calls.Call.{Call}
 use Rattle.callorder.specs.declared.calls.Message.{Message}
 use Rattle.callorder.specs.declared.calls.Pattern.{Pattern}
 use Rattle.callorder.specs.Calls.{message_of, pattern_of, covers, fits_between, both_hold, fits}
-use Rattle.callorder.specs.Programs.{MpiProgram, call_at, are_fit, are_of_one_rank, have_one_rank}
+use Rattle.callorder.specs.Programs.{MpiProgram, call_at, have_one_rank}
 use Rattle.semantics.specs.Machine.{Configuration, partner_of}
 use Rattle.races.specs.Blocks.{Blocks}
-use Rattle.clocks.specs.declared.finders.Reach.{Reach}
+use Rattle.std.proofs.lemmas.Nat.{mod_below}
+use Rattle.std.proofs.lemmas.Option.{slice_get_within}
+use Rattle.std.specs.Global.{Vec}
+use Rattle.clocks.specs.declared.finders.Cover.{Cover}
+use Rattle.clocks.specs.declared.rows.Count.{Count}
+use Rattle.clocks.proofs.Counts.{same_some}
 use Rattle.clocks.specs.parts.Clocks.{Numbering, IsCount, IsSingle}
 use Rattle.knowledge.specs.Knowledge.{with_partners}
 use Rattle.clocks.specs.Spans.{AreSpans}
-use Rattle.clocks.specs.parts.Finders.{CannotRace, before_at, IsAmong, AreListedUpTo, AreListed, IsNumbered, IsReach, AreReaches}
+use Rattle.clocks.specs.parts.Finders.{CannotRace, mix, told, group_of_pattern, group_of_call, group_at, IsRising, IsPlaced, AreGroupedUpTo, AreEmptyGroups, IsPutIn, IsListing, IsNumbered, IsCover, IsCountedAt, IsWider, AreCoversOf, AreCovers, covers_in, covers_at}
 use Rattle.clocks.proofs.Shown.{no_fellow, fits_within}
 
 -- ---- what no send races for
@@ -62,22 +67,6 @@ named_cannot_race p block f call b q spans there is e single own other mine fit 
 
 -- ---- one call more
 
-before_push : (xs : List ℕ) (y d e c : ℕ) → c < length xs → unwrap_or (slice_get (xs ++ y ∷ []) c) d ≡ unwrap_or (slice_get xs c) e
-before_push [] y d e c lt = absurd (omega (arith, lt))
-before_push (x ∷ xs) y d e zero lt = refl
-before_push (x ∷ xs) y d e (suc c) lt = before_push xs y d e c (omega (arith, lt))
-
-at_push : (xs : List ℕ) (y d c : ℕ) → c ≡ length xs → unwrap_or (slice_get (xs ++ y ∷ []) c) d ≡ y
-at_push [] y d zero is = refl
-at_push [] y d (suc c) is = absurd (omega (arith, is))
-at_push (x ∷ xs) y d zero is = absurd (omega (arith, is))
-at_push (x ∷ xs) y d (suc c) is = at_push xs y d c (omega (arith, is))
-
-past_end : (xs : List ℕ) (d c : ℕ) → length xs ≤ c → unwrap_or (slice_get xs c) d ≡ d
-past_end [] d c le = refl
-past_end (x ∷ xs) d zero le = absurd (omega (arith, le))
-past_end (x ∷ xs) d (suc c) le = past_end xs d c (omega (arith, le))
-
 still_there : {X : Type 0} (xs : List X) (y x : X) (i : ℕ) → slice_get xs i ≡ Some x → slice_get (xs ++ y ∷ []) i ≡ Some x
 still_there [] y x i h = absurd (cc)
 still_there (z ∷ xs) y x zero h = h
@@ -87,149 +76,231 @@ pushed_there : {X : Type 0} (xs : List X) (y : X) → slice_get (xs ++ y ∷ [])
 pushed_there [] y = refl
 pushed_there (x ∷ xs) y = pushed_there xs y
 
-module _ (p : MpiProgram) (block : Blocks) (n : ℕ) (old new before : List ℕ) (keeps : (i f : ℕ) → slice_get old i ≡ Some f → slice_get new i ≡ Some f) (grows : length old ≤ length new) (known : AreListedUpTo p block n old before) where
-  more : List ℕ
-  more = before ++ length old ∷ []
-
-  below_is : (c : ℕ) → c < n → before_at new (before ++ length old ∷ []) c ≡ before_at old before c
-  below_is c lt = before_push before (length old) (length new) (length old) c (let size = known.size in omega (arith, lt, size))
-
-  here_is : (c : ℕ) → c ≡ n → before_at new (before ++ length old ∷ []) c ≡ length old
-  here_is c at = at_push before (length old) (length new) c (at ∙ sym known.size)
-
-  past_is : (c : ℕ) → n < c → before_at new (before ++ length old ∷ []) c ≡ length new
-  past_is c lt = past_end (before ++ length old ∷ []) (length new) c (let size = known.size in omega (arith, lt, size, length_push before (length old)))
-
-  old_past : (c : ℕ) → n ≤ c → before_at old before c ≡ length old
-  old_past c le = past_end before (length old) c (let size = known.size in omega (arith, le, size))
-
-  upto_is : (c : ℕ) → c ≤ n → before_at new (before ++ length old ∷ []) c ≤ length old
-  upto_is c le =
-      elim (cases_lt c n) [
-        | inl lt ↦ omega (arith, below_is c lt, known.within c)
-        | inr ge ↦ omega (arith, here_is c (omega (arith, ge, le)))
-      ]
-
-  within_more : (c : ℕ) → before_at new (before ++ length old ∷ []) c ≤ length new
-  within_more c =
-      elim (cases_lt n c) [
-        | inl lt ↦ omega (arith, past_is c lt)
-        | inr ge ↦ omega (arith, upto_is c ge, grows)
-      ]
-
-  end_more : (place end : ℕ) → place < before_at old before end → place < before_at new (before ++ length old ∷ []) end
-  end_more place end lt =
-      elim (cases_lt end n) [
-        | inl below ↦ omega (arith, lt, below_is end below)
-        | inr ge ↦
-            let all : place < length old = omega (arith, lt, old_past end ge) in
-            elim (cases_lt n end) [
-              | inl above ↦ omega (arith, all, past_is end above, grows)
-              | inr le ↦ omega (arith, all, here_is end (omega (arith, ge, le)))
-            ]
-      ]
-
-  among_more : (first end f : ℕ) → first ≤ f → f < n → IsAmong old before first end f → IsAmong new (before ++ length old ∷ []) first end f
-  among_more first end f le lt w =
-      record {
-        place = w.place;
-        from = (let from = w.from in omega (arith, from, below_is first (omega (arith, le, lt))));
-        below = end_more w.place end w.below;
-        there = keeps w.place f w.there;
-      }
-
-  pub one_more_call : CannotRace p block n ⊎ ((length old < length new) × (slice_get new (length old) ≡ Some n)) → AreListedUpTo p block (n + 1) new (before ++ length old ∷ [])
-  one_more_call last =
-      record {
-        size = length_push before (length old) ∙ ap (λ (k : ℕ). k + 1) known.size;
-        within = within_more;
-        each = λ first end f le lt bound.
-            elim (cases_lt f n) [
-              | inl below ↦
-                  elim (known.each first end f le lt below) [
-                    | inl never ↦ inl never
-                    | inr w ↦ inr (among_more first end f le below w)
-                  ]
-              | inr ge ↦
-                  let at : n ≡ f = omega (arith, ge, bound) in
-                  elim last [
-                    | inl never ↦ inl (subst (λ (z : ℕ). CannotRace p block z) at never)
-                    | inr w ↦
-                        inr (record {
-                          place = length old;
-                          from = upto_is first (omega (arith, le, at));
-                          below = (let one = w.0 in omega (arith, one, past_is end (omega (arith, lt, at))));
-                          there = subst (λ (z : ℕ). slice_get new (length old) ≡ Some z) at w.1;
-                        })
-                  ]
-            ];
-      }
-
-pub not_listed : (p : MpiProgram) (block : Blocks) (n size : ℕ) (listed before new : List ℕ) → size ≡ length listed → new ≡ before ++ size ∷ [] → CannotRace p block n → AreListedUpTo p block n listed before → AreListedUpTo p block (n + 1) listed new
-not_listed p block n size listed before new all is never known =
-    subst (λ (z : List ℕ). AreListedUpTo p block (n + 1) listed z) (sym (is ∙ ap (λ (k : ℕ). before ++ k ∷ []) all)) (one_more_call p block n listed listed before (λ i f h. h) (omega arith) known (inl never))
-
-pub also_listed : (p : MpiProgram) (block : Blocks) (n size : ℕ) (listed before more new : List ℕ) → size ≡ length listed → new ≡ before ++ size ∷ [] → more ≡ listed ++ n ∷ [] → AreListedUpTo p block n listed before → AreListedUpTo p block (n + 1) more new
-also_listed p block n size listed before more new all is pushed known =
-    subst (λ (z : List ℕ). AreListedUpTo p block (n + 1) z new) (sym pushed)
-    (subst (λ (z : List ℕ). AreListedUpTo p block (n + 1) (listed ++ n ∷ []) z) (sym (is ∙ ap (λ (k : ℕ). before ++ k ∷ []) all))
-    (one_more_call p block n listed (listed ++ n ∷ []) before (λ i f h. still_there listed n f i h) (omega (arith, length_push listed n)) known
-    (inr (omega (arith, length_push listed n), pushed_there listed n))))
-
-none_yet : (p : MpiProgram) (block : Blocks) → AreListedUpTo p block 0 [] []
-none_yet p block = record { size = refl; within = λ c. omega arith; each = λ first end f le lt below. absurd (omega (arith, below)) }
-
-pub none_listed : (p : MpiProgram) (block : Blocks) (listed before : List ℕ) → listed ≡ [] → before ≡ [] → AreListedUpTo p block 0 listed before
-none_listed p block listed before one two =
-    subst (λ (z : List ℕ). AreListedUpTo p block 0 z before) (sym one) (subst (λ (z : List ℕ). AreListedUpTo p block 0 [] z) (sym two) (none_yet p block))
-
-pub all_listed : (p : MpiProgram) (block : Blocks) (n : ℕ) (listed before : List ℕ) → length p.calls ≤ n → AreListedUpTo p block n listed before → AreListed p block listed before
-all_listed p block n listed before all known first end f le lt =
-    elim (cases_lt f n) [
-      | inl below ↦ known.each first end f le lt below
-      | inr ge ↦ inl (λ own other mine fit which. omega (arith, all, ge, fits_within p other f fit))
-    ]
-
--- ---- reaches
-
-pub later_reach : (ns : Numbering) (listed : List ℕ) (last more : ℕ) (reach : Reach) → last ≤ more → IsReach ns listed last reach → IsReach ns listed more reach
-later_reach ns listed last more reach le h i f from below there =
-    let w = h i f from below there in
-    record { number = w.number; from = w.from; upto = (let upto = w.upto in omega (arith, upto, le)); there = w.there }
-
-pub shorter_reach : (ns : Numbering) (listed : List ℕ) (last column first end less : ℕ) → less ≤ end → IsReach ns listed last (record { column = column; first = first; end = end }) → IsReach ns listed last (record { column = column; first = first; end = less })
-shorter_reach ns listed last column first end less le h i f from below there = h i f from (omega (arith, below, le)) there
-
-pub longer_reach : (ns : Numbering) (listed : List ℕ) (last column first n finder : ℕ) → slice_get listed n ≡ Some finder → IsNumbered ns column last finder → IsReach ns listed last (record { column = column; first = first; end = n }) → IsReach ns listed last (record { column = column; first = first; end = n + 1 })
-longer_reach ns listed last column first n finder is numbered h i f from below there =
-    elim (cases_lt i n) [
-      | inl lt ↦ h i f from lt there
-      | inr ge ↦
-          let at : i ≡ n = omega (arith, ge, below) in
-          let same : finder ≡ f = same_finder finder f (sym is ∙ subst (λ (z : ℕ). slice_get listed z ≡ Some f) at there) in
-          subst (λ (z : ℕ). IsNumbered ns column last z) same numbered
-    ]
-  where
-    same_finder : (x y : ℕ) → Some x ≡ Some y → x ≡ y
-    same_finder x y e = cc (e)
-
-in_push : (xs : List Reach) (y x : Reach) (i : ℕ) → slice_get (xs ++ y ∷ []) i ≡ Some x → (slice_get xs i ≡ Some x) ⊎ ((i ≡ length xs) × (y ≡ x))
+in_push : {X : Type 0} (xs : List X) (y x : X) (i : ℕ) → slice_get (xs ++ y ∷ []) i ≡ Some x → (slice_get xs i ≡ Some x) ⊎ ((i ≡ length xs) × (y ≡ x))
 in_push [] y x zero h = inr (refl, cc (h))
 in_push [] y x (suc i) h = absurd (cc (h))
 in_push (z ∷ xs) y x zero h = inl h
 in_push (z ∷ xs) y x (suc i) h = elim (in_push xs y x i h) [ inl old ↦ inl old | inr w ↦ inr (let e = w.0 in omega (arith, e), w.1) ]
 
-pub reaches_push : (ns : Numbering) (listed : List ℕ) (reaches new : List Reach) (reach : Reach) (n : ℕ) → length reaches ≡ n → new ≡ reaches ++ reach ∷ [] → IsReach ns listed n reach → AreReaches ns listed reaches → AreReaches ns listed new
-reaches_push ns listed reaches new reach n size is last are m r there =
-    elim (in_push reaches reach r m (subst (λ (z : List Reach). slice_get z m ≡ Some r) is there)) [
-      | inl old ↦ are m r old
-      | inr w ↦ subst (λ (z : Reach). IsReach ns listed m z) w.1 (subst (λ (z : ℕ). IsReach ns listed z reach) (sym size ∙ sym w.0) last)
+which : (a b : ℕ) → (a ≡ b) ⊎ (a ≡ b → ⊥)
+which a b =
+    elim (cases_lt a b) [
+      | inl lt ↦ inr (λ e. omega (arith, lt, e))
+      | inr ge ↦
+          elim (cases_lt b a) [
+            | inl gt ↦ inr (λ e. omega (arith, gt, e))
+            | inr le ↦ inl (omega (arith, ge, le))
+          ]
     ]
 
-pub reach_known : (ns : Numbering) (known : ℕ → Bool) (listed : List ℕ) (reaches : List Reach) (column count last place : ℕ) (reach : Reach) → AreReaches ns listed reaches → slice_get reaches last ≡ Some reach → last < count → reach.column ≡ column → reach.first ≤ place → IsCount ns known column count → (i f : ℕ) → place ≤ i → i < reach.end → slice_get listed i ≡ Some f → known f ≡ true
-reach_known ns known listed reaches column count last place reach are there small same first counts i f from below at =
-    let w : IsNumbered ns column last f = subst (λ (z : ℕ). IsNumbered ns z last f) same (are last reach there i f (omega (arith, first, from)) below at) in
-    counts w.number f w.from (let upto = w.upto in omega (arith, upto, small)) w.there
+rising_push : (xs : List ℕ) (n : ℕ) → IsRising xs → ((i f : ℕ) → slice_get xs i ≡ Some f → f < n) → IsRising (xs ++ n ∷ [])
+rising_push xs n rise below i j x y lt a b =
+    elim (in_push xs n y j b) [
+      | inl there ↦
+          elim (in_push xs n x i a) [
+            | inl here ↦ rise i j x y lt here there
+            | inr w ↦ let e = w.0 in let within : j < length xs = slice_get_within xs j y there in omega (arith, e, lt, within)
+          ]
+      | inr v ↦
+          elim (in_push xs n x i a) [
+            | inl here ↦ let e = v.1 in let small : x < n = below i x here in omega (arith, e, small)
+            | inr w ↦ let e = w.0 in let d = v.0 in omega (arith, e, d, lt)
+          ]
+    ]
+
+pub group_below : (n : ℕ) (o : Option Call) → 0 < n → group_of_call n o < n
+group_below zero o some = omega (arith, some)
+group_below (suc n) None some = some
+group_below (suc n) (Some call) some = by (pattern_of call.kind)
+  where
+    by : (b : Option Pattern) → group_of_pattern (suc n) call.rank b < suc n
+    by None = some
+    by (Some b) = mod_below (mix (mix call.rank b.communicator) (told b.tag)) (suc n) some
+
+module _ (old new : List (Vec ℕ)) (k n : ℕ) (put : IsPutIn old k n new) (small : k < length old) where
+  content : (g : ℕ) → (group_at new g ≡ group_at old g) ⊎ ((g ≡ k) × (group_at new g ≡ group_at old g ++ n ∷ []))
+  content g =
+      elim (which g k) [
+        | inl at ↦ inr (at, subst (λ (z : ℕ). group_at new z ≡ group_at old z ++ n ∷ []) (sym at) (put.there small))
+        | inr off ↦ inl (put.others g off)
+      ]
+
+  kept : (g i f : ℕ) → slice_get (group_at old g) i ≡ Some f → slice_get (group_at new g) i ≡ Some f
+  kept g i f h =
+      elim (content g) [
+        | inl same ↦ subst (λ (xs : List ℕ). slice_get xs i ≡ Some f) (sym same) h
+        | inr w ↦ subst (λ (xs : List ℕ). slice_get xs i ≡ Some f) (sym w.1) (still_there (group_at old g) n f i h)
+      ]
+
+  pub new_below : ((g i f : ℕ) → slice_get (group_at old g) i ≡ Some f → f < n) → (g i f : ℕ) → slice_get (group_at new g) i ≡ Some f → f < n + 1
+  new_below below g i f h =
+      elim (content g) [
+        | inl same ↦ let lt : f < n = below g i f (subst (λ (xs : List ℕ). slice_get xs i ≡ Some f) same h) in omega (arith, lt)
+        | inr w ↦
+            elim (in_push (group_at old g) n f i (subst (λ (xs : List ℕ). slice_get xs i ≡ Some f) w.1 h)) [
+              | inl there ↦ let lt : f < n = below g i f there in omega (arith, lt)
+              | inr v ↦ let e = v.1 in omega (arith, e)
+            ]
+      ]
+
+  pub new_rising : ((g i f : ℕ) → slice_get (group_at old g) i ≡ Some f → f < n) → ((g : ℕ) → IsRising (group_at old g)) → (g : ℕ) → IsRising (group_at new g)
+  new_rising below rise g =
+      elim (content g) [
+        | inl same ↦ subst IsRising (sym same) (rise g)
+        | inr w ↦ subst IsRising (sym w.1) (rising_push (group_at old g) n (rise g) (below g))
+      ]
+
+  pub still_placed : (p : MpiProgram) (f : ℕ) → IsPlaced p old f → IsPlaced p new f
+  still_placed p f w =
+      record {
+        place = w.place;
+        there =
+            subst (λ (z : ℕ). slice_get (group_at new (group_of_call z (call_at p f))) w.place ≡ Some f) (sym put.size)
+            (kept (group_of_call (length old) (call_at p f)) w.place f w.there);
+      }
+
+  pub now_placed : (p : MpiProgram) → k ≡ group_of_call (length old) (call_at p n) → IsPlaced p new n
+  now_placed p is =
+      record {
+        place = length (group_at old k);
+        there =
+            subst (λ (z : ℕ). slice_get (group_at new (group_of_call z (call_at p n))) (length (group_at old k)) ≡ Some n) (sym put.size)
+            (subst (λ (z : ℕ). slice_get (group_at new z) (length (group_at old k)) ≡ Some n) is
+            (subst (λ (xs : List ℕ). slice_get xs (length (group_at old k)) ≡ Some n) (sym (put.there small)) (pushed_there (group_at old k) n)));
+      }
+
+pub also_listed : (p : MpiProgram) (block : Blocks) (n k : ℕ) (old new : List (Vec ℕ)) → k ≡ group_of_call (length old) (call_at p n) → IsPutIn old k n new → AreGroupedUpTo p block n old → AreGroupedUpTo p block (n + 1) new
+also_listed p block n k old new is put known =
+    let small : k < length old = subst (λ (z : ℕ). z < length old) (sym is) (group_below (length old) (call_at p n) known.some) in
+    record {
+      some = (let some = known.some in let size = put.size in omega (arith, some, size));
+      each = λ f lt.
+          elim (cases_lt f n) [
+            | inl below ↦
+                elim (known.each f below) [
+                  | inl never ↦ inl never
+                  | inr w ↦ inr (still_placed old new k n put small p f w)
+                ]
+            | inr ge ↦ let at : n ≡ f = omega (arith, ge, lt) in inr (subst (IsPlaced p new) at (now_placed old new k n put small p is))
+          ];
+      below = new_below old new k n put small known.below;
+      rising = new_rising old new k n put small known.below known.rising;
+    }
+
+pub not_listed : (p : MpiProgram) (block : Blocks) (n : ℕ) (groups : List (Vec ℕ)) → CannotRace p block n → AreGroupedUpTo p block n groups → AreGroupedUpTo p block (n + 1) groups
+not_listed p block n groups never known =
+    record {
+      some = known.some;
+      each = λ f lt.
+          elim (cases_lt f n) [
+            | inl below ↦ known.each f below
+            | inr ge ↦ let at : n ≡ f = omega (arith, ge, lt) in inl (subst (CannotRace p block) at never)
+          ];
+      below = λ g i f h. let lt : f < n = known.below g i f h in omega (arith, lt);
+      rising = known.rising;
+    }
+
+pub none_listed : (p : MpiProgram) (block : Blocks) (groups : List (Vec ℕ)) → AreEmptyGroups groups → AreGroupedUpTo p block 0 groups
+none_listed p block groups none =
+    record {
+      some = none.some;
+      each = λ f lt. absurd (omega (arith, lt));
+      below = λ g i f h. absurd (let e = subst (λ (xs : List ℕ). slice_get xs i ≡ Some f) (none.empty g) h in cc (e));
+      rising = λ g i j x y lt a b. absurd (let e = subst (λ (xs : List ℕ). slice_get xs i ≡ Some x) (none.empty g) a in cc (e));
+    }
+
+pub all_listed : (p : MpiProgram) (block : Blocks) (n : ℕ) (groups : List (Vec ℕ)) → length p.calls ≤ n → AreGroupedUpTo p block n groups → IsListing p block groups
+all_listed p block n groups all known =
+    record {
+      each = λ f.
+          elim (cases_lt f n) [
+            | inl below ↦ known.each f below
+            | inr ge ↦ inl (λ own other mine fit which. omega (arith, all, ge, fits_within p other f fit))
+          ];
+      rising = known.rising;
+    }
+
+-- ---- parting a list that rises
+
+pub below_middle : (xs : List ℕ) (call m z : ℕ) → IsRising xs → slice_get xs m ≡ Some z → z < call → (i f : ℕ) → i < m + 1 → slice_get xs i ≡ Some f → f < call
+below_middle xs call m z rise at lt i f upto there =
+    elim (cases_lt i m) [
+      | inl below ↦ let small : f < z = rise i m f z below there at in omega (arith, small, lt)
+      | inr ge ↦ let same : i ≡ m = omega (arith, ge, upto) in let e = subst (λ (k : ℕ). slice_get xs k ≡ Some f) same there in let is : z ≡ f = same_some z f (sym at ∙ e) in omega (arith, is, lt)
+    ]
+
+pub from_middle : (xs : List ℕ) (call m z : ℕ) → IsRising xs → slice_get xs m ≡ Some z → call ≤ z → (i f : ℕ) → m ≤ i → slice_get xs i ≡ Some f → call ≤ f
+from_middle xs call m z rise at le i f from there =
+    elim (cases_lt m i) [
+      | inl above ↦ let large : z < f = rise m i z f above at there in omega (arith, large, le)
+      | inr ge ↦ let same : i ≡ m = omega (arith, ge, from) in let e = subst (λ (k : ℕ). slice_get xs k ≡ Some f) same there in let is : z ≡ f = same_some z f (sym at ∙ e) in omega (arith, is, le)
+    ]
+
+-- ---- covers
+
+pub counted : (ns : Numbering) (known : ℕ → Bool) (calls : List ℕ) (own : List Cover) (m : ℕ) (count : Count) → AreCoversOf ns calls own → IsCountedAt own m count → IsCount ns known count.column count.count → (i f : ℕ) → i < m + 1 → slice_get calls i ≡ Some f → known f ≡ true
+counted ns known calls own m count are at counts i f upto there =
+    let w : IsNumbered ns count.column at.cover.last f = subst (λ (z : ℕ). IsNumbered ns z at.cover.last f) at.column (are m at.cover at.there at.is_one i f (omega (arith, upto)) there) in
+    counts w.number f w.from (let upto = w.upto in let small = at.last in omega (arith, upto, small)) w.there
+
+pub covers_push : (ns : Numbering) (calls : List ℕ) (covers new : List Cover) (cover : Cover) (n : ℕ) → length covers ≡ n → new ≡ covers ++ cover ∷ [] → IsCover ns calls n cover → AreCoversOf ns calls covers → AreCoversOf ns calls new
+covers_push ns calls covers new cover n size is last are m c there =
+    elim (in_push covers cover c m (subst (λ (z : List Cover). slice_get z m ≡ Some c) is there)) [
+      | inl old ↦ are m c old
+      | inr w ↦ subst (λ (z : Cover). IsCover ns calls m z) w.1 (subst (λ (z : ℕ). IsCover ns calls z cover) (sym size ∙ sym w.0) last)
+    ]
+
+pub numbered_more : (ns : Numbering) (column last more f : ℕ) → last ≤ more → IsNumbered ns column last f → IsNumbered ns column more f
+numbered_more ns column last more f le w = record { number = w.number; from = w.from; upto = (let upto = w.upto in omega (arith, upto, le)); there = w.there }
+
+wider : (ns : Numbering) (one wide : Cover) (f : ℕ) → IsWider one wide → IsNumbered ns one.column one.last f → IsNumbered ns wide.column wide.last f
+wider ns one wide f w h = subst (λ (z : ℕ). IsNumbered ns z wide.last f) (sym w.column) (numbered_more ns one.column one.last wide.last f w.last h)
+
+pub first_cover : (ns : Numbering) (calls : List ℕ) (place x : ℕ) (own : Cover) → place ≡ 0 → slice_get calls place ≡ Some x → (own.is_one ≡ true → IsNumbered ns own.column own.last x) → IsCover ns calls place own
+first_cover ns calls place x own none at is one i f upto there =
+    let same : i ≡ place = omega (arith, none, upto) in
+    let e = subst (λ (k : ℕ). slice_get calls k ≡ Some f) same there in
+    subst (IsNumbered ns own.column own.last) (same_some x f (sym at ∙ e)) (is one)
+
+pub next_cover : (ns : Numbering) (calls : List ℕ) (place x : ℕ) (before own wide : Cover) → ((i : ℕ) → i + 1 ≡ place → IsCover ns calls i before) → (place ≡ 0 → ⊥) → slice_get calls place ≡ Some x → (own.is_one ≡ true → IsNumbered ns own.column own.last x) → (wide.is_one ≡ true → IsWider before wide × IsWider own wide) → IsCover ns calls place wide
+next_cover ns calls zero x before own wide all some at is widens one i f upto there = absurd (some refl)
+next_cover ns calls (suc k) x before own wide all some at is widens one i f upto there =
+    let w = widens one in
+    elim (cases_lt i (suc k)) [
+      | inl lt ↦ wider ns before wide f w.0 (all k (omega arith) w.0.is_one i f (omega (arith, lt)) there)
+      | inr ge ↦
+          let same : i ≡ suc k = omega (arith, ge, upto) in
+          let e = subst (λ (z : ℕ). slice_get calls z ≡ Some f) same there in
+          subst (IsNumbered ns wide.column wide.last) (same_some x f (sym at ∙ e)) (wider ns own wide x w.1 (is w.1.is_one))
+    ]
+
+pub groups_push : (ns : Numbering) (groups : List (Vec ℕ)) (covers new : List (Vec Cover)) (v : Vec Cover) (n : ℕ) → length covers ≡ n → new ≡ covers ++ v ∷ [] → AreCoversOf ns (group_at groups n) v.items → AreCovers ns groups covers → AreCovers ns groups new
+groups_push ns groups covers new v n size is last are m c there =
+    elim (in_push covers v c m (subst (λ (z : List (Vec Cover)). slice_get z m ≡ Some c) is there)) [
+      | inl old ↦ are m c old
+      | inr w ↦ subst (λ (z : Vec Cover). AreCoversOf ns (group_at groups m) z.items) w.1 (subst (λ (z : ℕ). AreCoversOf ns (group_at groups z) v.items) (sym size ∙ sym w.0) last)
+    ]
+
+pub covers_of_group : (ns : Numbering) (groups : List (Vec ℕ)) (own : List (Vec Cover)) (g : ℕ) → AreCovers ns groups own → AreCoversOf ns (group_at groups g) (covers_at own g)
+covers_of_group ns groups own g are = by (slice_get own g) refl
+  where
+    by : (o : Option (Vec Cover)) → slice_get own g ≡ o → AreCoversOf ns (group_at groups g) (covers_in o)
+    by None is = λ place cover there. absurd (cc (there))
+    by (Some v) is = are g v is
+
+push_empty : (groups : List (Vec ℕ)) (v : Vec ℕ) → ((g : ℕ) → group_at groups g ≡ []) → v.items ≡ [] → (g : ℕ) → group_at (groups ++ v ∷ []) g ≡ []
+push_empty [] v all none zero = none
+push_empty [] v all none (suc g) = refl
+push_empty (x ∷ xs) v all none zero = all zero
+push_empty (x ∷ xs) v all none (suc g) = push_empty xs v (λ k. all (suc k)) none g
+
+pub first_empty : (groups new : List (Vec ℕ)) (v : Vec ℕ) → groups ≡ [] → v.items ≡ [] → new ≡ groups ++ v ∷ [] → AreEmptyGroups new
+first_empty groups new v none is pushed =
+    subst AreEmptyGroups (sym (pushed ∙ ap (λ (z : List (Vec ℕ)). z ++ v ∷ []) none)) (record { some = omega arith; empty = push_empty [] v (λ g. refl) is })
+
+pub more_empty : (groups new : List (Vec ℕ)) (v : Vec ℕ) → AreEmptyGroups groups → v.items ≡ [] → new ≡ groups ++ v ∷ [] → AreEmptyGroups new
+more_empty groups new v known is pushed =
+    subst AreEmptyGroups (sym pushed) (record { some = omega (arith, length_push groups v); empty = push_empty groups v known.empty is })
 
 pub single_if : (b : Bool) → not b ≡ false → b ≡ true
 single_if true h = refl

@@ -1,21 +1,24 @@
 -- Which finders a send has to be looked at for.
-use Rattle.std.proofs.Common.{◌≡◌, ℕ, zero, suc, ◌+◌, ◌<◌, ◌≤◌, ◌⊎◌, inl, inr, Bool, true, false, ◌||◌, length, slice_get, slice_index, List, Option, Some, None, refl, sym, ap, ◌∙◌, subst, arith}
-use Rattle.std.proofs.lemmas.Bool.{cases_lt}
+use Rattle.std.proofs.Common.{◌≡◌, ℕ, zero, suc, ◌+◌, ◌<◌, ◌≤◌, ◌⊎◌, inl, inr, Bool, true, false, ◌||◌, ◌&&◌, ◌==◌, length, slice_get, slice_index, List, Option, Some, None, refl, sym, ap, ◌∙◌, subst, arith}
+use Rattle.std.proofs.lemmas.Bool.{cases_lt, eqb-true}
 use Rattle.std.proofs.lemmas.Option.{slice_get_within}
-use Rattle.calltext.proofs.Conjunctions.{and_both}
+use Rattle.calltext.proofs.Conjunctions.{and_both, and_true}
 use Rattle.calltext.specs.Grammar.{long}
 use Rattle.callorder.specs.declared.calls.Call.{Call}
 use Rattle.callorder.specs.ProgramRules.{IsProgramWithin}
 use Rattle.callorder.specs.Programs.{MpiProgram, call_at, are_fit, are_of_one_rank}
-use Rattle.callorder.specs.Calls.{both_hold, fits}
+use Rattle.callorder.specs.declared.calls.Message.{Message}
+use Rattle.callorder.specs.declared.calls.Pattern.{Pattern}
+use Rattle.callorder.specs.Calls.{both_hold, covers, fits, fits_between, pattern_of}
+use Rattle.std.specs.Global.{Vec}
 use Rattle.semantics.specs.Machine.{Configuration, is_issued, partner_of}
 use Rattle.semantics.proofs.RankOrder.{one_rank_between}
 use Rattle.races.specs.Blocks.{Blocks, HasFellow}
 use Rattle.races.specs.Tells.{Table, IsJustified, tells_return_call}
 use Rattle.races.proofs.Steps.{issued_within, within_issued, one_rank, one_rank_made}
-use Rattle.clocks.specs.parts.Clocks.{HasEarlier, IsTaken, IsChecked, Numbering, rounds}
+use Rattle.clocks.specs.parts.Clocks.{HasEarlier, IsTaken, IsChecked, rounds}
 use Rattle.clocks.specs.Clocks.{IsNoRace, ShowsAll}
-use Rattle.clocks.specs.parts.Finders.{IsListing, Listing, before_at}
+use Rattle.clocks.specs.parts.Finders.{AreNoRaces, group_at, group_of, group_of_call, group_of_pattern, IsListing, IsOfAnyTag, IsParting, Sends}
 use Rattle.clocks.proofs.Levels.{or_left, rounds_within}
 
 -- what is known where a call is issued is known at each later call of its rank, some rounds later
@@ -24,7 +27,7 @@ next_rank p e base n b f one h =
     and_both (are_of_one_rank p b (suc b)) (rounds p e base n b f || tells_return_call p e (rounds p e base n) b (call_at p b) f) one
     (or_left (rounds p e base n b f) (tells_return_call p e (rounds p e base n) b (call_at p b) f) h)
 
-same_call : (p : MpiProgram) (c : ℕ) (x y : Call) → call_at p c ≡ Some x → call_at p c ≡ Some y → x ≡ y
+pub same_call : (p : MpiProgram) (c : ℕ) (x y : Call) → call_at p c ≡ Some x → call_at p c ≡ Some y → x ≡ y
 same_call p c x y a b = cc (a, b)
 
 from_ends : (p : MpiProgram) (c b : ℕ) → IsProgramWithin long p → c ≤ b → are_of_one_rank p c (suc b) ≡ true → are_of_one_rank p c b ≡ true
@@ -104,30 +107,6 @@ checked_shows p block e sure base is justified checked finder own other found mi
     more_rounds p sure base other (length p.calls) other finder justified (omega (arith, within))
     (all_later p block e sure base (length p.calls) other is justified checked within issued finder own found mine fit apart later)
 
--- a send is checked where it is looked at for each finder that the four bounds leave
-pub checked_by : (p : MpiProgram) (block : Blocks) (e : Configuration) (knows : Table) (other first start end last low high : ℕ) → ((f : ℕ) → f < first → are_fit p other f ≡ true → HasEarlier p block e other f) → ((f : ℕ) → f < start → are_fit p other f ≡ true → ⊥) → ((f : ℕ) → end ≤ f → are_fit p other f ≡ true → IsTaken block e other f) → ((f : ℕ) → last ≤ f → are_fit p other f ≡ true → ⊥) → ((n : ℕ) → first ≤ n → start ≤ n → low ≤ n) → ((n : ℕ) → n < end → n < last → n < high) → ((f own : ℕ) → low ≤ f → f < high → partner_of e f ≡ Some own → are_fit p own f ≡ true → IsNoRace p block e knows f own other) → IsChecked p block e knows other
-checked_by p block e knows other first start end last low high a b c d from to looked issued f own found mine = by (are_fit p other f) refl
-  where
-    by : (fit : Bool) → are_fit p other f ≡ fit → IsNoRace p block e knows f own other ⊎ HasEarlier p block e other f
-    by false is = inl (λ fit apart later. absurd (cc (is, fit)))
-    by true is =
-        elim (cases_lt f first) [
-          | inl lt ↦ inr (a f lt is)
-          | inr ge ↦
-              elim (cases_lt f start) [
-                | inl lt ↦ absurd (b f lt is)
-                | inr above ↦
-                    elim (cases_lt f end) [
-                      | inr past ↦ inl (λ fit apart later. absurd (let w = c f past is in later w.taker w.found w.which))
-                      | inl before ↦
-                          elim (cases_lt f last) [
-                            | inr past ↦ absurd (d f past is)
-                            | inl below ↦ inl (looked f own (from f ge above) (to f before below) found mine)
-                          ]
-                    ]
-              ]
-        ]
-
 pub one_more_send : (p : MpiProgram) (block : Blocks) (e : Configuration) (knows : Table) (n : ℕ) → ((other : ℕ) → other < n → IsChecked p block e knows other) → IsChecked p block e knows n → (other : ℕ) → other < n + 1 → IsChecked p block e knows other
 one_more_send p block e knows n h last other lt =
     elim (cases_lt other n) [
@@ -158,15 +137,111 @@ one_more_place p block e knows listed other low n h last i f own from lt there =
       | inr ge ↦ let at : i ≡ n = omega (arith, ge, lt) in last f own (subst (λ (z : ℕ). slice_get listed z ≡ Some f) at there)
     ]
 
--- A finder from one call up to another is looked at, or no send races for it, or it is known to
--- have found.
-pub looked_between : (p : MpiProgram) (block : Blocks) (e : Configuration) (knows : Table) (ns : Numbering) (l : Listing) (other first end low high n : ℕ) → IsListing p block ns l → low ≡ before_at l.listed l.before first → high ≡ before_at l.listed l.before end → ((i f : ℕ) → low ≤ i → i < n → slice_get l.listed i ≡ Some f → knows other f ≡ true) → AreLookedAt p block e knows l.listed other n high → (f own : ℕ) → first ≤ f → f < end → partner_of e f ≡ Some own → are_fit p own f ≡ true → IsNoRace p block e knows f own other
-looked_between p block e knows ns l other first end low high n is low_is high_is known looked f own from below found mine fit apart later =
-    elim (is.each first end f from below) [
-      | inl never ↦ absurd (never own other mine fit apart)
-      | inr w ↦
-          elim (cases_lt w.place n) [
-            | inl lt ↦ known w.place f (let at = w.from in omega (arith, at, low_is)) lt w.there
-            | inr ge ↦ looked w.place f own ge (let at = w.below in omega (arith, at, high_is)) w.there found fit apart later
+-- A finder of a group from one call up to another is looked at, or it is known to have found.
+pub looked_between : (p : MpiProgram) (block : Blocks) (e : Configuration) (knows : Table) (listed : List ℕ) (other first end low high n past : ℕ) → IsParting listed first low → IsParting listed end high → high ≤ past → ((i f : ℕ) → low ≤ i → i < n → slice_get listed i ≡ Some f → knows other f ≡ true) → AreLookedAt p block e knows listed other n past → AreNoRaces p block e listed first end other knows
+looked_between p block e knows listed other first end low high n past at_first at_end all known looked i f own there from below found =
+    elim (cases_lt i low) [
+      | inl early ↦ absurd (let lt : f < first = at_first.before i f early there in omega (arith, lt, from))
+      | inr le ↦
+          elim (cases_lt i n) [
+            | inl told ↦ λ fit apart later. known i f le told there
+            | inr ge ↦
+                elim (cases_lt i high) [
+                  | inl in_range ↦ looked i f own ge (omega (arith, in_range, all)) there found
+                  | inr late ↦ absurd (let le : end ≤ f = at_end.behind i f late there in omega (arith, le, below))
+                ]
           ]
     ]
+
+-- ---- the two groups of a send
+
+-- what a finder that the send fits asks for
+pub record Asks (p : MpiProgram) (groups : ℕ) (message : Message) (f : ℕ) : Type 0 where
+  pub call : Call
+  pub there : call_at p f ≡ Some call
+  pub pattern : Pattern
+  pub asks : pattern_of call.kind ≡ Some pattern
+  pub group : group_of_call groups (call_at p f) ≡ group_of groups message.destination message.communicator pattern.tag
+  pub tag : (pattern.tag ≡ None) ⊎ (pattern.tag ≡ Some message.tag)
+
+tag_of : (wanted : Option ℕ) (tag : ℕ) → covers wanted tag ≡ true → (wanted ≡ None) ⊎ (wanted ≡ Some tag)
+tag_of None tag h = inl refl
+tag_of (Some wanted) tag h = inr (ap (λ (z : ℕ). Some z) (eqb-true wanted tag h))
+
+asked_by : (p : MpiProgram) (groups other f : ℕ) (send finder : Call) (message : Message) (b : Option Pattern) → call_at p f ≡ Some finder → pattern_of finder.kind ≡ b → fits_between send.rank (Some message) finder.rank b ≡ true → Asks p groups message f
+asked_by p groups other f send finder message None there is fit = absurd (cc)
+asked_by p groups other f send finder message (Some b) there is fit =
+    let three = and_true (message.destination == finder.rank && message.communicator == b.communicator && covers b.source send.rank) (covers b.tag message.tag) fit in
+    let two = and_true (message.destination == finder.rank && message.communicator == b.communicator) (covers b.source send.rank) three.0 in
+    let one = and_true (message.destination == finder.rank) (message.communicator == b.communicator) two.0 in
+    let way : message.destination ≡ finder.rank = eqb-true message.destination finder.rank one.0 in
+    let comm : message.communicator ≡ b.communicator = eqb-true message.communicator b.communicator one.1 in
+    record {
+      call = finder;
+      there = there;
+      pattern = b;
+      asks = is;
+      group =
+          ap (group_of_call groups) there ∙ ap (group_of_pattern groups finder.rank) is
+          ∙ ap (λ (z : ℕ). group_of groups z b.communicator b.tag) (sym way)
+          ∙ ap (λ (z : ℕ). group_of groups message.destination z b.tag) (sym comm);
+      tag = tag_of b.tag message.tag three.1;
+    }
+
+pub asks_of : (p : MpiProgram) (groups other f : ℕ) (message : Message) → Sends p other message → are_fit p other f ≡ true → Asks p groups message f
+asks_of p groups other f message w fit = by (call_at p f) refl
+  where
+    by : (o : Option Call) → call_at p f ≡ o → Asks p groups message f
+    by None is = absurd (let h = subst (λ (x : Option Call). both_hold fits x (call_at p f) ≡ true) w.there fit in let g = subst (λ (x : Option Call). both_hold fits (Some w.call) x ≡ true) is h in cc (g))
+    by (Some finder) is =
+        let h = subst (λ (x : Option Call). both_hold fits x (call_at p f) ≡ true) w.there fit in
+        let g = subst (λ (x : Option Call). both_hold fits (Some w.call) x ≡ true) is h in
+        asked_by p groups other f w.call finder message (pattern_of finder.kind) is refl
+        (subst (λ (x : Option Message). fits_between w.call.rank x finder.rank (pattern_of finder.kind) ≡ true) w.sent g)
+
+-- a send that a finder takes is checked where it is looked at between the four bounds
+finder_checked : (p : MpiProgram) (block : Blocks) (e : Configuration) (knows : Table) (other f own first start end last low high : ℕ) → (f < first → HasEarlier p block e other f) → (f < start → ⊥) → (end ≤ f → IsTaken block e other f) → (last ≤ f → ⊥) → ((n : ℕ) → first ≤ n → start ≤ n → low ≤ n) → ((n : ℕ) → n < end → n < last → n < high) → (low ≤ f → f < high → IsNoRace p block e knows f own other) → IsNoRace p block e knows f own other ⊎ HasEarlier p block e other f
+finder_checked p block e knows other f own first start end last low high a b c d from to looked =
+    elim (cases_lt f first) [
+      | inl lt ↦ inr (a lt)
+      | inr ge ↦
+          elim (cases_lt f start) [
+            | inl lt ↦ absurd (b lt)
+            | inr above ↦
+                elim (cases_lt f end) [
+                  | inr past ↦ inl (λ fit apart later. absurd (let w = c past in later w.taker w.found w.which))
+                  | inl before ↦
+                      elim (cases_lt f last) [
+                        | inr past ↦ absurd (d past)
+                        | inl below ↦ inl (looked (from f ge above) (to f before below))
+                      ]
+                ]
+          ]
+    ]
+
+-- the finder stands in the group that it asks for, or no send races for it
+in_group : (p : MpiProgram) (block : Blocks) (e : Configuration) (knows : Table) (groups : List (Vec ℕ)) (other f own low high g : ℕ) → IsListing p block groups → group_of_call (length groups) (call_at p f) ≡ g → AreNoRaces p block e (group_at groups g) low high other knows → partner_of e f ≡ Some own → are_fit p own f ≡ true → low ≤ f → f < high → IsNoRace p block e knows f own other
+in_group p block e knows groups other f own low high g listing is looked found mine from below fit apart later =
+    elim (listing.each f) [
+      | inl never ↦ absurd (never own other mine fit apart)
+      | inr w ↦ looked w.place f own (subst (λ (z : ℕ). slice_get (group_at groups z) w.place ≡ Some f) is w.there) from below found fit apart later
+    ]
+
+-- a send is checked where it is looked at for the finders of its tag, and for those of any
+pub checked_by : (p : MpiProgram) (block : Blocks) (e : Configuration) (knows : Table) (groups : List (Vec ℕ)) (other : ℕ) (message : Message) (named any first first_any start end last low low_any high : ℕ) → IsListing p block groups → Sends p other message → named ≡ group_of (length groups) message.destination message.communicator (Some message.tag) → any ≡ group_of (length groups) message.destination message.communicator None → ((f : ℕ) → f < first → are_fit p other f ≡ true → HasEarlier p block e other f) → ((f : ℕ) → f < first_any → IsOfAnyTag p f → are_fit p other f ≡ true → HasEarlier p block e other f) → ((f : ℕ) → f < start → are_fit p other f ≡ true → ⊥) → ((f : ℕ) → end ≤ f → are_fit p other f ≡ true → IsTaken block e other f) → ((f : ℕ) → last ≤ f → are_fit p other f ≡ true → ⊥) → ((n : ℕ) → first ≤ n → start ≤ n → low ≤ n) → ((n : ℕ) → first_any ≤ n → start ≤ n → low_any ≤ n) → ((n : ℕ) → n < end → n < last → n < high) → AreNoRaces p block e (group_at groups named) low high other knows → AreNoRaces p block e (group_at groups any) low_any high other knows → IsChecked p block e knows other
+checked_by p block e knows groups other message named any first first_any start end last low low_any high listing sends is_named is_any a a_any b c d from from_any to looked looked_any issued f own found mine = by (are_fit p other f) refl
+  where
+    by : (fit : Bool) → are_fit p other f ≡ fit → IsNoRace p block e knows f own other ⊎ HasEarlier p block e other f
+    by false is = inl (λ fit apart later. absurd (cc (is, fit)))
+    by true is =
+        let w : Asks p (length groups) message f = asks_of p (length groups) other f message sends is in
+        elim w.tag [
+          | inl none ↦
+              finder_checked p block e knows other f own first_any start end last low_any high
+              (λ lt. a_any f lt (record { call = w.call; there = w.there; pattern = w.pattern; asks = w.asks; any = none }) is) (λ lt. b f lt is) (λ ge. c f ge is) (λ ge. d f ge is) from_any to
+              (in_group p block e knows groups other f own low_any high any listing (w.group ∙ ap (group_of (length groups) message.destination message.communicator) none ∙ sym is_any) looked_any found mine)
+          | inr one ↦
+              finder_checked p block e knows other f own first start end last low high
+              (λ lt. a f lt is) (λ lt. b f lt is) (λ ge. c f ge is) (λ ge. d f ge is) from to
+              (in_group p block e knows groups other f own low high named listing (w.group ∙ ap (group_of (length groups) message.destination message.communicator) one ∙ sym is_named) looked found mine)
+        ]

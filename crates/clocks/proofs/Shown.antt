@@ -1,5 +1,5 @@
 -- Rows of some level that show no race.
-use Rattle.std.proofs.Common.{zero, suc, ap, ◌∙◌, IfSome, [], ◌∷◌, ◌++◌, slice_get, ◌≡◌, ℕ, ◌<◌, ◌≤◌, ◌⊎◌, inl, inr, Bool, true, false, not, cond, nat_lt, Option, None, IfNone, IfOk, Ok, Err, Result, List, length, ◌+◌, refl, take, get_or, slice_index, Some, sym, subst, arith}
+use Rattle.std.proofs.Common.{zero, suc, ap, ◌∙◌, IfSome, [], ◌∷◌, ◌++◌, slice_get, ◌≡◌, ℕ, ◌<◌, ◌≤◌, ◌⊎◌, inl, inr, Bool, true, false, not, ◌&&◌, ◌==◌, cond, nat_lt, Option, None, IfNone, IfOk, Ok, Err, Result, List, length, ◌+◌, refl, take, get_or, slice_index, Some, sym, subst, arith}
 use Rattle.std.proofs.lemmas.Option.{slice_get-get_or, slice_get_within}
 use Rattle.semantics.proofs.Runs.{IsRun-at}
 use Rattle.std.proofs.lemmas.Bool.{cases_lt, eq-eqb, lt-ltb}
@@ -16,26 +16,30 @@ use Rattle.races.specs.Blocks.{Blocks, HasFellow, IsSure}
 use Rattle.races.proofs.Telling.{programs_are_in_order}
 use Rattle.races.proofs.LikeRuns.{table_of_blocks_never_sticks}
 use Rattle.races.proofs.Passing.{kept_opening, part_all}
-use Rattle.races.proofs.Steps.{within_issued}
-use Rattle.calltext.proofs.Conjunctions.{and_true}
+use Rattle.races.proofs.Steps.{one_rank, within_issued}
+use Rattle.calltext.proofs.Conjunctions.{and_both, and_true}
 use Rattle.callorder.proofs.Lookups.{slice_get-none_past}
-use Rattle.callorder.specs.Calls.{both_hold, fits}
+use Rattle.callorder.specs.declared.calls.Message.{Message}
+use Rattle.callorder.specs.declared.calls.Pattern.{Pattern}
+use Rattle.callorder.specs.Calls.{both_hold, covers, fits, fits_between, pattern_of}
+use Rattle.std.specs.Global.{Vec}
+use Rattle.clocks.specs.parts.Finders.{AreNoRaces, group_at, group_of, HaveOneWay, IsListing, IsOfAnyTag, Sends}
 use Rattle.std.specs.List.{count_by}
 use Rattle.std.proofs.lemmas.List.Sums.{sum_by-cons}
 use Rattle.std.proofs.lemmas.List.FromFn.{get_or-map-range_with_len}
 use Rattle.clocks.specs.declared.race.Race.{Race}
 use Rattle.clocks.specs.declared.rows.Count.{Count}
-use Rattle.clocks.specs.parts.Clocks.{Numbering, AreTold, AreToldSoundly, HasEarlier, IsTaken, IsSingle, IsSurePartner, IsChecked, IsRivalIfSingle, level, rounds}
+use Rattle.clocks.specs.parts.Clocks.{Numbering, AreToldSoundly, HasEarlier, IsTaken, IsSingle, IsSurePartner, IsChecked, IsRivalIfSingle, level, rounds}
 use Rattle.clocks.specs.Clocks.{IsNoRace, ShowsAll, HasNoRaceShown, IsRival}
 use Rattle.clocks.specs.Spans.{AreSpans}
 use Rattle.clocks.proofs.Members.{chain, name_below, named_from, spans_are_blocks}
 use Rattle.std.specs.Option.{unwrap_or}
 use Rattle.knowledge.specs.Knowledge.{with_partners}
 use Rattle.clocks.proofs.Counts.{same_some}
-use Rattle.clocks.proofs.Looks.{checked_shows, checked_by, send_there}
+use Rattle.clocks.proofs.Looks.{checked_shows, checked_by, same_call, send_there}
 use Rattle.clocks.proofs.Levels.{level_justified, rounds_justified}
 use Rattle.clocks.specs.parts.Exact.{ShowsFrom}
-use Rattle.clocks.proofs.Extending.{shows_as}
+use Rattle.clocks.proofs.Extending.{shows_always, shows_as, shows_then}
 use Rattle.std.specs.declared.alloc.AllocError.{AllocError}
 
 before : (p : MpiProgram) (block : Blocks) (f g : ℕ) → AreSpans p block → g < f → IsSingle block f → block g ≡ block f → ⊥
@@ -140,11 +144,60 @@ none_shown p block e sure ns told None is spans within sound shown =
     }
 none_shown p block e sure ns told (Some race) is spans within sound shown = shown
 
-pub checked_if : (p : MpiProgram) (block : Blocks) (e sure : Configuration) (ns : Numbering) (told : List Count) (other first start end last low high : ℕ) (r : Option ℕ) → ((f : ℕ) → f < first → are_fit p other f ≡ true → HasEarlier p block e other f) → ((f : ℕ) → f < start → are_fit p other f ≡ true → ⊥) → ((f : ℕ) → end ≤ f → are_fit p other f ≡ true → IsTaken block e other f) → ((f : ℕ) → last ≤ f → are_fit p other f ≡ true → ⊥) → ((n : ℕ) → first ≤ n → start ≤ n → low ≤ n) → ((n : ℕ) → n < end → n < last → n < high) → IfNone r (ShowsFrom p sure ns told (λ more. (f own : ℕ) → low ≤ f → f < high → partner_of e f ≡ Some own → are_fit p own f ≡ true → IsNoRace p block e more f own other)) → IfNone r (ShowsFrom p sure ns told (λ more. IsChecked p block e more other))
-checked_if p block e sure ns told other first start end last low high None a b c d from to looked =
-    shows_as p sure ns told (λ more. (f own : ℕ) → low ≤ f → f < high → partner_of e f ≡ Some own → are_fit p own f ≡ true → IsNoRace p block e more f own other) (λ more. IsChecked p block e more other)
-    (λ more are shows. checked_by p block e more other first start end last low high a b c d from to shows) looked
-checked_if p block e sure ns told other first start end last low high (Some x) a b c d from to looked = looked
+-- what is shown of the finders of a send's tag, and then of those of any, is shown of both
+pub groups_shown : (p : MpiProgram) (block : Blocks) (e sure : Configuration) (ns : Numbering) (told : List Count) (one two : List ℕ) (other low low_any high : ℕ) → ShowsFrom p sure ns told (AreNoRaces p block e one low high other) → ShowsFrom p sure ns told (AreNoRaces p block e two low_any high other) → ShowsFrom p sure ns told (λ more. AreNoRaces p block e one low high other more × AreNoRaces p block e two low_any high other more)
+groups_shown p block e sure ns told one two other low low_any high =
+    shows_then p sure ns told (AreNoRaces p block e one low high other) (AreNoRaces p block e two low_any high other) (λ more. AreNoRaces p block e one low high other more × AreNoRaces p block e two low_any high other more)
+    (λ a b within h i f own there from below found fit apart later. within other f (h i f own there from below found fit apart later))
+    (λ more first second. (first, second))
+
+pub checked_if : (p : MpiProgram) (block : Blocks) (e sure : Configuration) (ns : Numbering) (told : List Count) (groups : List (Vec ℕ)) (other : ℕ) (message : Message) (named any first first_any start end last low low_any high : ℕ) (r : Option ℕ) → IsListing p block groups → Sends p other message → named ≡ group_of (length groups) message.destination message.communicator (Some message.tag) → any ≡ group_of (length groups) message.destination message.communicator None → ((f : ℕ) → f < first → are_fit p other f ≡ true → HasEarlier p block e other f) → ((f : ℕ) → f < first_any → IsOfAnyTag p f → are_fit p other f ≡ true → HasEarlier p block e other f) → ((f : ℕ) → f < start → are_fit p other f ≡ true → ⊥) → ((f : ℕ) → end ≤ f → are_fit p other f ≡ true → IsTaken block e other f) → ((f : ℕ) → last ≤ f → are_fit p other f ≡ true → ⊥) → ((n : ℕ) → first ≤ n → start ≤ n → low ≤ n) → ((n : ℕ) → first_any ≤ n → start ≤ n → low_any ≤ n) → ((n : ℕ) → n < end → n < last → n < high) → ShowsFrom p sure ns told (AreNoRaces p block e (group_at groups named) low high other) → IfNone r (ShowsFrom p sure ns told (AreNoRaces p block e (group_at groups any) low_any high other)) → IfNone r (ShowsFrom p sure ns told (λ more. IsChecked p block e more other))
+checked_if p block e sure ns told groups other message named any first first_any start end last low low_any high None listing sends is_named is_any a a_any b c d from from_any to looked looked_any =
+    shows_as p sure ns told (λ more. AreNoRaces p block e (group_at groups named) low high other more × AreNoRaces p block e (group_at groups any) low_any high other more) (λ more. IsChecked p block e more other)
+    (λ more are both. checked_by p block e more groups other message named any first first_any start end last low low_any high listing sends is_named is_any a a_any b c d from from_any to both.0 both.1)
+    (groups_shown p block e sure ns told (group_at groups named) (group_at groups any) other low low_any high looked looked_any)
+checked_if p block e sure ns told groups other message named any first first_any start end last low low_any high (Some x) listing sends is_named is_any a a_any b c d from from_any to looked looked_any = looked_any
+
+-- so where the second was shown by the same partners
+pub checked_then : (p : MpiProgram) (block : Blocks) (e : Configuration) (partners mid : List (Option ℕ)) (ns : Numbering) (told : List Count) (groups : List (Vec ℕ)) (count other : ℕ) (message : Message) (named any first first_any start end last low low_any high : ℕ) (by_tag r : Option ℕ) → mid ≡ partners → count ≡ length groups → by_tag ≡ None → IsListing p block groups → Sends p other message → named ≡ group_of count message.destination message.communicator (Some message.tag) → any ≡ group_of count message.destination message.communicator None → ((f : ℕ) → f < first → are_fit p other f ≡ true → HasEarlier p block e other f) → ((f : ℕ) → f < first_any → IsOfAnyTag p f → are_fit p other f ≡ true → HasEarlier p block e other f) → ((f : ℕ) → f < start → are_fit p other f ≡ true → ⊥) → ((f : ℕ) → end ≤ f → are_fit p other f ≡ true → IsTaken block e other f) → ((f : ℕ) → last ≤ f → are_fit p other f ≡ true → ⊥) → ((n : ℕ) → first ≤ n → start ≤ n → low ≤ n) → ((n : ℕ) → first_any ≤ n → start ≤ n → low_any ≤ n) → ((n : ℕ) → n < end → n < last → n < high) → IfNone by_tag (ShowsFrom p (with_partners partners) ns told (AreNoRaces p block e (group_at groups named) low high other)) → IfNone r (ShowsFrom p (with_partners mid) ns told (AreNoRaces p block e (group_at groups any) low_any high other)) → IfNone r (ShowsFrom p (with_partners partners) ns told (λ more. IsChecked p block e more other))
+checked_then p block e partners mid ns told groups count other message named any first first_any start end last low low_any high by_tag r same size none listing sends is_named is_any a a_any b c d from from_any to looked looked_any =
+    checked_if p block e (with_partners partners) ns told groups other message named any first first_any start end last low low_any high r listing sends
+    (is_named ∙ ap (λ (z : ℕ). group_of z message.destination message.communicator (Some message.tag)) size)
+    (is_any ∙ ap (λ (z : ℕ). group_of z message.destination message.communicator None) size)
+    a a_any b c d from from_any to
+    (subst (λ (z : Option ℕ). IfNone z (ShowsFrom p (with_partners partners) ns told (AreNoRaces p block e (group_at groups named) low high other))) none looked)
+    (subst (λ (z : List (Option ℕ)). IfNone r (ShowsFrom p (with_partners z) ns told (AreNoRaces p block e (group_at groups any) low_any high other))) same looked_any)
+
+-- a call that fits no finder is checked
+pub unsent_checked : (p : MpiProgram) (block : Blocks) (e sure : Configuration) (ns : Numbering) (told : List Count) (other : ℕ) → ((f : ℕ) → are_fit p other f ≡ true → ⊥) → ShowsFrom p sure ns told (λ more. IsChecked p block e more other)
+unsent_checked p block e sure ns told other never =
+    shows_always p sure ns told (λ more. IsChecked p block e more other) (λ knows are issued f own found mine. inl (λ fit apart later. absurd (never f fit)))
+
+fits_any : (r v : ℕ) (m n : Message) (b : Pattern) → m.destination ≡ n.destination → m.communicator ≡ n.communicator → b.tag ≡ None → fits_between r (Some n) v (Some b) ≡ true → fits_between r (Some m) v (Some b) ≡ true
+fits_any r v m n b way comm any fit =
+    let three = and_true (n.destination == v && n.communicator == b.communicator && covers b.source r) (covers b.tag n.tag) fit in
+    and_both (m.destination == v && m.communicator == b.communicator && covers b.source r) (covers b.tag m.tag)
+    (subst (λ (z : ℕ). (z == v && m.communicator == b.communicator && covers b.source r) ≡ true) (sym way)
+    (subst (λ (z : ℕ). (n.destination == v && z == b.communicator && covers b.source r) ≡ true) (sym comm) three.0))
+    (subst (λ (z : Option ℕ). covers z m.tag ≡ true) (sym any) refl)
+
+-- a finder of any tag takes each message of one rank that comes to it by one communicator
+pub any_fit : (p : MpiProgram) (one other f : ℕ) → HaveOneWay (call_at p one) (call_at p other) → are_of_one_rank p one other ≡ true → IsOfAnyTag p f → are_fit p other f ≡ true → are_fit p one f ≡ true
+any_fit p one other f w same finder fit =
+    let r = one_rank p one other same in
+    let first : r.0 ≡ w.first = same_call p one r.0 w.first r.2 w.is_first in
+    let second : r.1 ≡ w.second = same_call p other r.1 w.second r.3 w.is_second in
+    let ranks : w.first.rank ≡ w.second.rank = ap (λ (z : Call). z.rank) (sym first) ∙ r.4 ∙ ap (λ (z : Call). z.rank) second in
+    let h1 = subst (λ (x : Option Call). both_hold fits x (call_at p f) ≡ true) w.is_second fit in
+    let h2 = subst (λ (x : Option Call). both_hold fits (Some w.second) x ≡ true) finder.there h1 in
+    let h3 = subst (λ (x : Option Message). fits_between w.second.rank x finder.call.rank (pattern_of finder.call.kind) ≡ true) w.way.is_second h2 in
+    let h4 = subst (λ (x : Option Pattern). fits_between w.second.rank (Some w.way.second) finder.call.rank x ≡ true) finder.asks h3 in
+    let h5 = subst (λ (x : ℕ). fits_between x (Some w.way.second) finder.call.rank (Some finder.pattern) ≡ true) (sym ranks) h4 in
+    let g5 = fits_any w.first.rank finder.call.rank w.way.first w.way.second finder.pattern w.way.destination w.way.communicator finder.any h5 in
+    let g4 = subst (λ (x : Option Pattern). fits_between w.first.rank (Some w.way.first) finder.call.rank x ≡ true) (sym finder.asks) g5 in
+    let g3 = subst (λ (x : Option Message). fits_between w.first.rank x finder.call.rank (pattern_of finder.call.kind) ≡ true) (sym w.way.is_first) g4 in
+    let g2 = subst (λ (x : Option Call). both_hold fits (Some w.first) x ≡ true) (sym finder.there) g3 in
+    subst (λ (x : Option Call). both_hold fits x (call_at p f) ≡ true) (sym w.is_first) g2
 
 -- one of four reasons shows that the other send doesn't race
 pub no_race_by_rank : (p : MpiProgram) (block : Blocks) (e : Configuration) (knows : Table) (finder own other : ℕ) → AreSpans p block → are_of_one_rank p own other ≡ true → IsSingle block finder → IsNoRace p block e knows finder own other

@@ -1,8 +1,9 @@
 //! Which finders a send is looked at for: those from one place up to another.
 
 ghost use Rattle.std.specs.Prelude.{◌≡◌, ◌≤◌, ◌<◌, ℕ, IsTrue, IfSome, IfNone};
-ghost use Rattle.callorder.specs.Programs.{are_fit, are_of_one_rank};
+ghost use Rattle.callorder.specs.Programs.{are_fit, are_of_one_rank, call_at};
 ghost use Rattle.clocks.specs.parts.Clocks.{HasEarlier, IsTaken, IsOfRank, block_of};
+ghost use Rattle.clocks.specs.parts.Finders.{GoOneWay, HaveOneWay, IsOfAnyTag};
 ghost use Rattle.clocks.specs.Spans.{AreSpans};
 
 use crate::spans::name;
@@ -15,6 +16,7 @@ use std::alloc::{AllocError, Global};
 #[derive(Drop)]
 pub struct Classes {
     previous: Vec<Option<usize>>,
+    previous_of_any: Vec<Option<usize>>,
     starts: Vec<usize>,
     ends: Vec<usize>,
 }
@@ -93,6 +95,42 @@ fn is_earlier(program: &LongProgram, earlier: usize, other: usize) -> bool
         && have_one_message(program, earlier, other)
 }
 
+/// Whether two sends have the same destination and communicator.
+fn have_one_way(program: &LongProgram, one: usize, other: usize) -> bool
+    ensures { IsTrue result → HaveOneWay (call_at program.now one) (call_at program.now other) }
+{
+    match program.call(one) {
+        None => false,
+        Some(first) => match program.call(other) {
+            None => false,
+            Some(second) => go_one_way(first.kind.message(), second.kind.message()),
+        },
+    }
+}
+
+/// Whether both are messages, with the same destination and communicator.
+fn go_one_way(one: Option<Message>, other: Option<Message>) -> bool
+    ensures { IsTrue result → GoOneWay one other }
+{
+    match (one, other) {
+        (Some(first), Some(second)) => {
+            first.destination == second.destination && first.communicator == second.communicator
+        }
+        _ => false,
+    }
+}
+
+/// Whether the one is an earlier send of the rank of the other, which any finder of any tag that
+/// the other fits takes too.
+fn is_earlier_of_any(program: &LongProgram, earlier: usize, other: usize) -> bool
+    ensures { IsTrue result → (earlier < other) × IsTrue (are_of_one_rank program.now earlier other) ×
+        HaveOneWay (call_at program.now earlier) (call_at program.now other) }
+{
+    earlier < other
+        && program.are_of_one_rank(earlier, other)
+        && have_one_way(program, earlier, other)
+}
+
 /// A call from which on each one is of the block of the send's taker, or behind the taker. Of a
 /// send that is not taken it is the number of calls.
 pub fn end_open(program: &LongProgram, state: &State, names: &[usize], other: usize) -> usize
@@ -167,8 +205,15 @@ impl Classes {
             }
         }
         sends.sort()?;
+        let previous = previous_of(alloc, sends.as_slice(), calls)?;
+        for send in sends.iter_mut() {
+            send.3 = 0;
+        }
+        sends.sort()?;
+        let previous_of_any = previous_of(alloc, sends.as_slice(), calls)?;
         Ok(Classes {
-            previous: previous_of(alloc, sends.as_slice(), calls)?,
+            previous,
+            previous_of_any,
             starts,
             ends,
         })
@@ -191,6 +236,31 @@ impl Classes {
             return 0;
         };
         if !is_earlier(program, earlier, other) {
+            return 0;
+        }
+        match state.partner(earlier) {
+            None => usize::MAX,
+            Some(taker) => name(names, taker),
+        }
+    }
+
+    /// As `first_open`, of finders of any tag.
+    pub fn first_open_of_any(
+        &self,
+        program: &LongProgram,
+        state: &State,
+        names: &[usize],
+        other: usize,
+    ) -> usize
+        requires { AreSpans program.now (block_of names.now) }
+        ensures { (finder : ℕ) → finder < result → IsOfAnyTag program.now finder →
+            IsTrue (are_fit program.now other finder) →
+            HasEarlier program.now (block_of names.now) state.now other finder }
+    {
+        let Some(earlier) = self.previous_of_any.get(other).copied().unwrap_or(None) else {
+            return 0;
+        };
+        if !is_earlier_of_any(program, earlier, other) {
             return 0;
         }
         match state.partner(earlier) {

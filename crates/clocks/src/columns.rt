@@ -46,9 +46,27 @@ fn completed(program: &LongProgram, call: usize) -> Option<usize> {
     }
 }
 
+/// Whether the finder's rank needs a column.
+fn is_of_needed(program: &LongProgram, needed: &[bool], finder: usize) -> bool {
+    match program.call(finder) {
+        None => false,
+        Some(call) => needed.get(call.rank as usize).copied().unwrap_or(false),
+    }
+}
+
 impl Columns {
-    /// The columns of a program. The only error is want of memory.
-    pub fn new(alloc: Global, program: &LongProgram) -> Result<Self, AllocError> {
+    /// No columns.
+    pub fn none(alloc: Global) -> Self {
+        Columns {
+            starts: Vec::new(alloc),
+            listed: Vec::new(alloc),
+            marks: Vec::new(alloc),
+            ranks: Vec::new(alloc),
+        }
+    }
+
+    /// The columns of a program for these ranks. The only error is want of memory.
+    pub fn new(alloc: Global, program: &LongProgram, needed: &[bool]) -> Result<Self, AllocError> {
         let calls = program.calls().len();
         let mut columns = Columns {
             starts: Vec::new(alloc),
@@ -58,7 +76,9 @@ impl Columns {
         };
         for call in 0..calls {
             if let Some(finder) = completed(program, call) {
-                columns.list(program, finder)?;
+                if is_of_needed(program, needed, finder) {
+                    columns.list(program, finder)?;
+                }
             }
         }
         Ok(columns)

@@ -1,9 +1,11 @@
-//! The finders for which a send may race, in a list, and up to where in that list a count tells
-//! that they have found.
+//! The finders for which a send may race, in groups by what they ask for, and up to where in a group
+//! a count tells that they have found.
 
-ghost use Rattle.std.specs.Prelude.{◌≡◌, ◌≤◌, ◌<◌, ◌+◌, ℕ, Bool, List, Some, IfOk, OnOk, IsTrue, false, slice_get};
+ghost use Rattle.std.specs.Prelude.{◌≡◌, ◌≤◌, ◌<◌, ◌+◌, ◌⊎◌, ℕ, Bool, [], List, Some, IfOk, OnOk, IsTrue, false, length, slice_get};
+ghost use Rattle.std.specs.Global.{Vec};
+ghost use Rattle.callorder.specs.Programs.{call_at};
 ghost use Rattle.clocks.specs.parts.Clocks.{IsCount, Numbering, block_of};
-ghost use Rattle.clocks.specs.parts.Finders.{AreListed, AreListedUpTo, AreReaches, CannotRace, IsListing, IsNumbered, IsReach, before_at};
+ghost use Rattle.clocks.specs.parts.Finders.{AreCovers, AreCoversOf, AreEmptyGroups, AreGroupedUpTo, covers_at, CannotRace, IsCountedAt, IsCover, IsListing, IsNumbered, IsPutIn, IsParting, IsRising, IsWider, group_at, group_of, group_of_call, mix, told};
 ghost use Rattle.clocks.specs.Spans.{AreSpans};
 
 use crate::columns::Columns;
@@ -13,34 +15,31 @@ use callorder::LongProgram;
 use std::alloc::{AllocError, Global};
 use std::marker::Model;
 
-/// Finders of the list that have found where a count tells so.
+/// Up to where in a group a count tells that finders have found.
 #[derive(Clone, Copy)]
-pub struct Reach {
-    /// The count's column.
+pub struct Cover {
+    /// Whether all of the group up to this place are numbered in one column.
+    pub is_one: bool,
+    /// That column.
     pub column: usize,
-    /// The first one's place in the list.
-    pub first: usize,
-    /// The place behind the last one.
-    pub end: usize,
+    /// A number that none of theirs is above.
+    pub last: usize,
 }
 
 /// The finders for which a send may race.
 #[derive(Drop)]
 pub struct Finders {
-    /// These, in the order of the calls.
-    listed: Vec<usize>,
-    /// For each call how many of them stand before it.
-    before: Vec<usize>,
-    /// For each number of a column's finder which of them have no larger one.
-    reaches: Vec<Reach>,
+    /// These in groups, each in the order of the calls. All that ask for the same stand in one.
+    groups: Vec<Vec<usize>>,
 }
 
 impl Model for Finders {
-    ghost use Rattle.clocks.specs.parts.Finders.{Listing};
+    ghost use Rattle.std.specs.Prelude.{ℕ, List};
+    ghost use Rattle.std.specs.Global.{Vec};
 
-    ghost Value = { Listing };
+    ghost Value = { List (Vec ℕ) };
 
-    ghost view = { λ f. record { listed = f.listed.items; before = f.before.items; reaches = f.reaches.items } };
+    ghost view = { λ f. f.groups.items };
 }
 
 /// Whether a send may race for the call: it is a finder of any source, or its block has others.
@@ -60,181 +59,344 @@ fn may_race(program: &LongProgram, names: &[usize], call: usize) -> bool
     }
 }
 
+/// A number made of two others.
+fn mix(one: u64, other: u64) -> u64
+    ensures { result ≡ mix one other }
+{
+    one.wrapping_mul(11_400_714_819_323_198_485)
+        .wrapping_add(other)
+}
+
+/// A number for a tag that is named, and another one for any.
+fn told(tag: Option<u32>) -> u64
+    ensures { result ≡ told tag }
+{
+    match tag {
+        None => 0,
+        Some(tag) => u64::from(tag) + 1,
+    }
+}
+
+/// The group of what a rank is sent by this communicator, with this tag, or any.
+pub fn group_of(groups: usize, rank: u32, communicator: u32, tag: Option<u32>) -> usize
+    ensures { result ≡ group_of groups rank communicator tag }
+{
+    if groups == 0 {
+        return 0;
+    }
+    let place = mix(mix(u64::from(rank), u64::from(communicator)), told(tag));
+    (place % groups as u64) as usize
+}
+
+/// The group of a finder, and 0 for another call.
+fn group_of_finder(groups: usize, program: &LongProgram, call: usize) -> usize
+    ensures { result ≡ group_of_call groups (call_at program.now call) }
+{
+    let Some(known) = program.call(call) else {
+        return 0;
+    };
+    let Some(pattern) = known.kind.pattern() else {
+        return 0;
+    };
+    group_of(groups, known.rank, pattern.communicator, pattern.tag)
+}
+
+/// Puts the call behind the last one of the group. The only error is want of memory.
+fn put(groups: &mut Vec<Vec<usize>>, place: usize, call: usize) -> Result<(), AllocError>
+    ensures { OnOk result (IsPutIn groups.old.items place call groups.new.items) }
+{
+    if let Some(group) = groups.get_mut(place) {
+        group.push(call)?;
+    }
+    Ok(())
+}
+
 /// Lists the call, where a send may race for it. The only error is want of memory.
 fn list(
     program: &LongProgram,
     names: &[usize],
-    listed: &mut Vec<usize>,
-    before: &mut Vec<usize>,
+    groups: &mut Vec<Vec<usize>>,
     call: usize,
 ) -> Result<(), AllocError>
     requires { AreSpans program.now (block_of names.now) }
-    ensures { OnOk result (AreListedUpTo program.now (block_of names.now) call listed.old.items
-        before.old.items →
-        AreListedUpTo program.now (block_of names.now) (call + 1) listed.new.items before.new.items) }
+    ensures { OnOk result (AreGroupedUpTo program.now (block_of names.now) call groups.old.items →
+        AreGroupedUpTo program.now (block_of names.now) (call + 1) groups.new.items) }
 {
-    before.push(listed.len())?;
     if !may_race(program, names, call) {
         return Ok(());
     }
-    listed.push(call)?;
+    let place = group_of_finder(groups.len(), program, call);
+    put(groups, place, call)?;
     Ok(())
 }
 
-/// Whether the finder's number is one of the column's, up to the last one.
-fn is_numbered(columns: &Columns, finder: usize, column: usize, last: usize) -> bool
-    ensures { IsTrue result → IsNumbered columns.now column last finder }
+/// How many finders there are for which a send may race.
+fn listed_count(program: &LongProgram, names: &[usize]) -> usize
+    requires { AreSpans program.now (block_of names.now) }
 {
-    let Some(mark) = columns.mark(finder) else {
-        return false;
-    };
-    let Some(found) = columns.listed(mark.number) else {
-        return false;
-    };
-    if found != finder {
-        return false;
-    }
-    columns.start(column) <= mark.number && mark.number <= last
-}
-
-/// The reach with the finders behind it whose numbers are of its column, up to the last one.
-fn longer(columns: &Columns, listed: &[usize], reach: Reach, last: usize) -> Reach
-    ensures { IsReach columns.now listed.now last reach → IsReach columns.now listed.now last result }
-{
-    for place in reach.end..listed.len() {
-        if !is_numbered(columns, listed[place], reach.column, last) {
-            return Reach {
-                column: reach.column,
-                first: reach.first,
-                end: place,
-            };
+    let mut count: usize = 0;
+    for call in 0..program.calls().len() {
+        if may_race(program, names, call) {
+            count = count.saturating_add(1);
         }
     }
-    Reach {
-        column: reach.column,
-        first: reach.first,
-        end: listed.len(),
-    }
+    count
 }
 
-/// The column of the finder with this number, and 0 where there is none.
-fn column_of(columns: &Columns, number: usize) -> usize {
-    match columns.listed(number) {
-        None => 0,
-        Some(finder) => match columns.mark(finder) {
-            None => 0,
-            Some(mark) => mark.column,
-        },
-    }
-}
-
-/// The reach, or an empty one behind it, where the column is another one.
-fn in_column(reach: Reach, column: usize) -> Reach
-    ensures { (numbering : Numbering) (listed : List ℕ) (last : ℕ) → IsReach numbering listed last reach →
-        IsReach numbering listed last result }
+/// One empty group more than so many. The only error is want of memory.
+fn empty_groups(alloc: Global, count: usize) -> Result<Vec<Vec<usize>>, AllocError>
+    ensures { IfOk result (λ groups. AreEmptyGroups groups.items) }
 {
-    if reach.column == column {
-        return reach;
+    let mut groups = Vec::new(alloc);
+    groups.push(Vec::new(alloc))?;
+    for _ in 0..count {
+        groups.push(Vec::new(alloc))?;
     }
-    Reach {
-        column,
-        first: reach.end,
-        end: reach.end,
-    }
+    Ok(groups)
 }
 
-/// For each number of a column's finder which of the list have no larger one. The only error is
-/// want of memory.
-fn reaches_of(alloc: Global, columns: &Columns, listed: &[usize]) -> Result<Vec<Reach>, AllocError>
-    ensures { IfOk result (λ reaches. AreReaches columns.now listed.now reaches.items) }
+/// The first place of the group, from `low` on and before `high`, whose finder is not before the
+/// call.
+fn place_of(group: &[usize], call: usize) -> usize
+    requires { IsRising group.now }
+    ensures { IsParting group.now call result }
 {
-    let mut reaches = Vec::new(alloc);
-    let mut reach = Reach {
-        column: 0,
-        first: 0,
-        end: 0,
-    };
-    for number in 0..columns.numbers() {
-        reach = longer(
-            columns,
-            listed,
-            in_column(reach, column_of(columns, number)),
-            number,
-        );
-        reaches.push(reach)?;
+    let mut low: usize = 0;
+    let mut high = group.len();
+    for step in 0..group.len() {
+        let _step = step;
+        if high <= low {
+            return low;
+        }
+        let middle = low + (high - low) / 2;
+        if group[middle] < call {
+            low = middle + 1;
+        } else {
+            high = middle;
+        }
     }
-    Ok(reaches)
-}
-
-/// Whether the reach is of the column, and goes on from the place.
-fn goes_on(reach: &Reach, column: usize, place: usize) -> bool
-    ensures { IsTrue result → (reach.now.column ≡ column) × (reach.now.first ≤ place) }
-{
-    reach.column == column && reach.first <= place && place <= reach.end
+    low
 }
 
 impl Finders {
     /// Those of a program, by these names of blocks. The only error is want of memory.
-    pub fn new(
-        alloc: Global,
-        program: &LongProgram,
-        names: &[usize],
-        columns: &Columns,
-    ) -> Result<Self, AllocError>
+    pub fn new(alloc: Global, program: &LongProgram, names: &[usize]) -> Result<Self, AllocError>
         requires { AreSpans program.now (block_of names.now) }
-        ensures { IfOk result (IsListing program.now (block_of names.now) columns.now) }
+        ensures { IfOk result (IsListing program.now (block_of names.now)) }
     {
-        let mut listed = Vec::new(alloc);
-        let mut before = Vec::new(alloc);
+        let mut groups = empty_groups(alloc, listed_count(program, names))?;
         for call in 0..program.calls().len() {
-            list(program, names, &mut listed, &mut before, call)?;
+            list(program, names, &mut groups, call)?;
         }
-        let reaches = reaches_of(alloc, columns, listed.as_slice())?;
-        Ok(Finders {
-            listed,
-            before,
-            reaches,
-        })
+        Ok(Finders { groups })
     }
 
-    /// How many of the list stand before the call.
-    pub fn before(&self, call: usize) -> usize
-        ensures { result ≡ before_at self.now.listed self.now.before call }
+    /// How many groups there are.
+    pub fn count(&self) -> usize
+        ensures { result ≡ length self.now }
     {
-        self.before.get(call).copied().unwrap_or(self.listed.len())
+        self.groups.len()
     }
 
-    /// The finder at this place of the list, if there is one.
-    pub fn at(&self, place: usize) -> Option<usize>
-        ensures { result ≡ slice_get self.now.listed place }
+    /// The finders of the group.
+    fn calls(&self, group: usize) -> &[usize]
+        ensures { result.now ≡ group_at self.now group }
     {
-        self.listed.get(place).copied()
+        match self.groups.get(group) {
+            None => &[],
+            Some(calls) => calls.as_slice(),
+        }
     }
 
-    /// The reach of a count whose last finder has this number, if there is one.
-    fn reach(&self, last: usize) -> Option<Reach>
-        ensures { result ≡ slice_get self.now.reaches last }
+    /// The place in the group before which all finders are before the call.
+    pub fn before(&self, group: usize, call: usize) -> usize
+        requires { IsRising (group_at self.now group) }
+        ensures { IsParting (group_at self.now group) call result }
     {
-        self.reaches.get(last).copied()
+        place_of(self.calls(group), call)
     }
 
-    /// A place of the list, up to which the count tells of all from this place on that they have
+    /// The finder at this place of the group, if there is one.
+    pub fn at(&self, group: usize, place: usize) -> Option<usize>
+        ensures { result ≡ slice_get (group_at self.now group) place }
+    {
+        match self.groups.get(group) {
+            None => None,
+            Some(finders) => finders.as_slice().get(place).copied(),
+        }
+    }
+}
+
+/// For each place of each group of finders, up to where counts tell that they have found.
+#[derive(Drop)]
+pub struct Covers {
+    covers: Vec<Vec<Cover>>,
+}
+
+impl Model for Covers {
+    ghost use Rattle.std.specs.Prelude.{List};
+    ghost use Rattle.std.specs.Global.{Vec};
+    ghost use Rattle.clocks.specs.declared.finders.Cover.{Cover};
+
+    ghost Value = { List (Vec Cover) };
+
+    ghost view = { λ c. c.covers.items };
+}
+
+/// A cover of no finder.
+fn no_cover() -> Cover
+    ensures { result.is_one ≡ false }
+{
+    Cover {
+        is_one: false,
+        column: 0,
+        last: 0,
+    }
+}
+
+/// A cover of the finder alone.
+fn cover_of(columns: &Columns, finder: usize) -> Cover
+    ensures { IsTrue result.is_one → IsNumbered columns.now result.column result.last finder }
+{
+    let Some(mark) = columns.mark(finder) else {
+        return no_cover();
+    };
+    let Some(found) = columns.listed(mark.number) else {
+        return no_cover();
+    };
+    if found != finder || mark.number < columns.start(mark.column) {
+        return no_cover();
+    }
+    Cover {
+        is_one: true,
+        column: mark.column,
+        last: mark.number,
+    }
+}
+
+/// A cover of what the two cover.
+fn both(one: Cover, other: Cover) -> Cover
+    ensures { IsTrue result.is_one → IsWider one result × IsWider other result }
+{
+    if !one.is_one || !other.is_one || one.column != other.column {
+        return no_cover();
+    }
+    Cover {
+        is_one: true,
+        column: one.column,
+        last: if one.last < other.last {
+            other.last
+        } else {
+            one.last
+        },
+    }
+}
+
+/// The call at the place of the group, if there is one.
+fn call_in(group: &[usize], place: usize) -> Option<usize>
+    ensures { result ≡ slice_get group.now place }
+{
+    group.get(place).copied()
+}
+
+/// A cover of all of the group up to the place, from one of all before it.
+fn cover_at(columns: &Columns, group: &[usize], place: usize, before: Cover) -> Cover
+    requires { (i : ℕ) → i + 1 ≡ place → IsCover columns.now group.now i before }
+    ensures { IsCover columns.now group.now place result }
+{
+    let Some(finder) = call_in(group, place) else {
+        return no_cover();
+    };
+    let own = cover_of(columns, finder);
+    if place == 0 {
+        return own;
+    }
+    both(before, own)
+}
+
+/// For each place of the group a cover of all up to it. The only error is want of memory.
+fn covers_of(alloc: Global, columns: &Columns, group: &[usize]) -> Result<Vec<Cover>, AllocError>
+    ensures { IfOk result (λ covers. AreCoversOf columns.now group.now covers.items) }
+{
+    let mut covers = Vec::new(alloc);
+    let mut whole = no_cover();
+    for place in 0..group.len() {
+        whole = cover_at(columns, group, place, whole);
+        covers.push(whole)?;
+    }
+    Ok(covers)
+}
+
+/// Whether the count tells of all up to the cover's place that they have found.
+fn is_counted(cover: &Cover, count: &Count) -> bool
+    ensures { IsTrue result → IsTrue cover.now.is_one × (cover.now.column ≡ count.now.column) × (cover.now.last < count.now.count) }
+{
+    cover.is_one && cover.column == count.column && cover.last < count.count
+}
+
+/// Whether the count tells of all of the group up to the place that they have found.
+fn is_counted_at(covers: &[Cover], place: usize, count: &Count) -> bool
+    ensures { IsTrue result → IsCountedAt covers.now place count.now }
+{
+    match covers.get(place).copied() {
+        None => false,
+        Some(cover) => is_counted(&cover, count),
+    }
+}
+
+/// A place of the group, up to which the count tells of all from the place on that they have found.
+fn first_unknown(covers: &[Cover], count: &Count, place: usize) -> usize
+    ensures { (numbering : Numbering) (known : ℕ → Bool) (calls : List ℕ) → AreCoversOf numbering calls covers.now →
+        IsCount numbering known count.now.column count.now.count → (i finder : ℕ) → place ≤ i → i < result →
+        slice_get calls i ≡ Some finder → IsTrue (known finder) }
+{
+    let mut low = place;
+    let mut high = covers.len();
+    for step in 0..64 {
+        let _step: usize = step;
+        if high <= low {
+            return low;
+        }
+        let middle = low + (high - low) / 2;
+        if is_counted_at(covers, middle, count) {
+            low = middle + 1;
+        } else {
+            high = middle;
+        }
+    }
+    low
+}
+
+impl Covers {
+    /// Those of the finders. The only error is want of memory.
+    pub fn new(alloc: Global, columns: &Columns, finders: &Finders) -> Result<Self, AllocError>
+        ensures { IfOk result (AreCovers columns.now finders.now) }
+    {
+        let mut covers = Vec::new(alloc);
+        for group in 0..finders.groups.len() {
+            let own = covers_of(alloc, columns, finders.calls(group))?;
+            covers.push(own)?;
+        }
+        Ok(Covers { covers })
+    }
+
+    /// The covers of the group's places.
+    fn covers(&self, group: usize) -> &[Cover]
+        ensures { result.now ≡ covers_at self.now group }
+    {
+        match self.covers.get(group) {
+            None => &[],
+            Some(covers) => covers.as_slice(),
+        }
+    }
+
+    /// A place of the group, up to which the count tells of all from this place on that they have
     /// found.
-    pub fn first_unknown(&self, columns: &Columns, count: &Count, place: usize) -> usize
-        requires { AreReaches columns.now self.now.listed self.now.reaches }
-        ensures { (known : ℕ → Bool) → IsCount columns.now known count.now.column count.now.count →
-            (i finder : ℕ) → place ≤ i → i < result → slice_get self.now.listed i ≡ Some finder →
-            IsTrue (known finder) }
+    pub fn first_unknown(&self, group: usize, count: &Count, place: usize) -> usize
+        ensures { (numbering : Numbering) (known : ℕ → Bool) (groups : List (Vec ℕ)) → AreCovers numbering groups self.now →
+            IsCount numbering known count.now.column count.now.count → (i finder : ℕ) → place ≤ i → i < result →
+            slice_get (group_at groups group) i ≡ Some finder → IsTrue (known finder) }
     {
-        if count.count == 0 {
-            return place;
-        }
-        let Some(reach) = self.reach(count.count - 1) else {
-            return place;
-        };
-        if !goes_on(&reach, count.column, place) {
-            return place;
-        }
-        reach.end
+        first_unknown(self.covers(group), count, place)
     }
 }

@@ -21,16 +21,21 @@
 //! blocks, each finder is taken once more as a block of its own. Names of blocks are made by what
 //! may be wrong, and are used only where a look at each call shows that they are right.
 //!
-//! That takes the calls times the columns in time, and in memory the calls, and the columns for
-//! each call that is open at one time. Then the sends are looked at, each for finders of any source
-//! alone: where a finder names its source, all sends that fit it are of one rank. A send's count
-//! tells at once of all finders of its destination up to a place that they have found, so it is
-//! looked at from there on, and no further than its own taker. In a program that doesn't race these
-//! are few, and of one envelope (the rank, the destination, the communicator and the tag) each
-//! finder is looked at for one send at most. Where the count doesn't tell, all that is known of the
-//! finder is asked for, which takes the calls in time and is kept until another finder is asked
-//! for. So of a race that is told no rule tells that the send is issued only where the finder has
-//! found. Of a send that the run hasn't issued nothing is asked; one that finishes has issued each.
+//! Only finders of any source are looked at: where a finder names its source, all sends that fit it
+//! are of one rank. They stand in groups by what they ask for: their rank, the communicator, and the
+//! tag or any tag. A send is looked at for the finders of two groups, of its tag and of any. A send's
+//! count tells at once of all finders of a group up to a place that they have found, so it is looked
+//! at from there on, and no further than its own taker. In a program that doesn't race these are
+//! few, and of one envelope (the rank, the destination, the communicator and the tag) each finder is
+//! looked at for one send at most.
+//!
+//! Counts are kept of those ranks alone to which a send goes that neither its fit, nor its rank, nor
+//! its taker settles; where there is none, no row is made. Rows take the calls times these ranks in
+//! time, and in memory the calls, and these ranks for each call that is open at one time. Where the
+//! count doesn't tell, all that is known of the finder is asked for, which takes the calls in time
+//! and is kept until another finder is asked for. So of a race that is told no rule tells that the
+//! send is issued only where the finder has found. Of a send that the run hasn't issued nothing is
+//! asked; one that finishes has issued each.
 //! Ranks, and calls by their place in the program's list, count from 0.
 #![tactic(auto)]
 

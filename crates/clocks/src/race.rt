@@ -1,27 +1,28 @@
 //! The first race of a run.
 
-ghost use Rattle.std.specs.Prelude.{◌≡◌, ◌≤◌, ◌<◌, ℕ, IfOk, IfNone, IfSome, Bool, IsTrue, Option, Some, slice_get, true, false};
+ghost use Rattle.std.specs.Prelude.{◌≡◌, ◌≤◌, ◌<◌, ℕ, IfOk, IfNone, IfSome, Bool, IsTrue, List, Option, Some, slice_get, true, false};
 ghost use Rattle.semantics.specs.RunEnds.{IsFinishedRun};
 ghost use Rattle.semantics.specs.Configurations.{IsConfigurationOf};
 ghost use Rattle.semantics.specs.Machine.{opening, after_all, partner_of};
 ghost use Rattle.races.specs.Races.{BuffersNoneByChoice, NamesSources};
 ghost use Rattle.races.specs.Tells.{Table};
 ghost use Rattle.semantics.specs.Headline.{NoStuckRun};
-ghost use Rattle.clocks.specs.parts.Clocks.{AreTold, IsCount, IsChecked, IsTaken, IsSingle, IsSurePartner, IsRivalIfSingle, block_of};
+ghost use Rattle.std.specs.Global.{Vec};
+ghost use Rattle.clocks.specs.parts.Clocks.{AreTold, IsCount, Numbering, IsChecked, IsTaken, IsSingle, IsSurePartner, IsRivalIfSingle, block_of};
 ghost use Rattle.knowledge.specs.Knowledge.{with_partners};
 ghost use Rattle.clocks.specs.Clocks.{IsNoRace, HasNoRaceShown, IsRival, IsUnordered};
 ghost use Rattle.clocks.specs.parts.Exact.{IsAsked, IsUnorderedBy, ShowsFrom};
-ghost use Rattle.clocks.specs.parts.Finders.{AreReaches, IsListing, IsLookedAt};
+ghost use Rattle.clocks.specs.parts.Finders.{AreCovers, AreNoRaces, IsListing, IsLookedAt, IsRising, Sends, group_at};
 ghost use Rattle.clocks.specs.Spans.{AreSpans};
 ghost use Rattle.callorder.specs.Programs.{are_fit, are_of_one_rank};
 
 use crate::classes::{Classes, end_open};
 use crate::columns::Columns;
 use crate::exact::Exact;
-use crate::finders::Finders;
+use crate::finders::{Covers, Finders, group_of};
 use crate::rows::{Count, told_of};
 use crate::spans::{is_single, name, names_of, no_names};
-use callorder::LongProgram;
+use callorder::{LongProgram, Message};
 use knowledge::issue_order;
 use leastrun::names_sources;
 use semantics::{State, Step};
@@ -157,26 +158,20 @@ fn is_no_race_if_found(
     }
 }
 
-/// A place of the list of finders: all that stand before it, from this place on, are known to have
+/// A place of the group of finders: all that stand before it, from this place on, are known to have
 /// found wherever the send is issued.
-fn first_unknown(
-    columns: &Columns,
-    told: &[Count],
-    finders: &Finders,
-    send: usize,
-    place: usize,
-) -> usize
-    requires { AreReaches columns.now finders.now.listed finders.now.reaches }
-    ensures { (knows : Table) → AreTold columns.now knows told.now → (i finder : ℕ) → place ≤ i → i < result →
-        slice_get finders.now.listed i ≡ Some finder → IsTrue (knows send finder) }
+fn first_unknown(told: &[Count], covers: &Covers, send: usize, group: usize, place: usize) -> usize
+    ensures { (numbering : Numbering) (groups : List (Vec ℕ)) (knows : Table) → AreCovers numbering groups covers.now →
+        AreTold numbering knows told.now → (i finder : ℕ) → place ≤ i → i < result →
+        slice_get (group_at groups group) i ≡ Some finder → IsTrue (knows send finder) }
 {
     match count_at(told, send) {
         None => place,
-        Some(count) => finders.first_unknown(columns, &count, place),
+        Some(count) => covers.first_unknown(group, &count, place),
     }
 }
 
-/// The finder at the place of the list, if the send races for it. The only error is want of memory.
+/// The finder at the place of the group, if the send races for it. The only error is want of memory.
 fn race_at(
     alloc: Global,
     program: &LongProgram,
@@ -187,6 +182,7 @@ fn race_at(
     finders: &Finders,
     exact: &mut Exact,
     other: usize,
+    group: usize,
     place: usize,
 ) -> Result<Option<usize>, AllocError>
     requires spans { AreSpans program.now (block_of names.now) }
@@ -195,12 +191,12 @@ fn race_at(
     ensures asked { IsAsked program.now exact.new }
     ensures none { IfOk result (λ found.
         IfNone found (ShowsFrom program.now (with_partners exact.old.partners) columns.now told.now
-        (IsLookedAt program.now (block_of names.now) state.now finders.now.listed place other))) }
+        (IsLookedAt program.now (block_of names.now) state.now (group_at finders.now group) place other))) }
     ensures rival { IfOk result (λ found. IfSome found (IsRivalIfSingle program.now (block_of names.now) state.now other)) }
     ensures unordered { IfOk result (λ found. IfSome found (λ finder.
         IsUnorderedBy program.now (with_partners exact.old.partners) other finder)) }
 {
-    let Some(finder) = finders.at(place) else {
+    let Some(finder) = finders.at(group, place) else {
         return Ok(None);
     };
     if is_no_race_if_found(program, state, columns, told, names, finder, other) {
@@ -213,9 +209,9 @@ fn race_at(
     Ok(Some(finder))
 }
 
-/// The first finder from one place up to another for which the send races. The only error is want
-/// of memory.
-fn race_between(
+/// The first finder of the group, from one call up to another, for which the send races. The only
+/// error is want of memory.
+fn race_in_group(
     alloc: Global,
     program: &LongProgram,
     state: &State,
@@ -223,30 +219,31 @@ fn race_between(
     told: &[Count],
     names: &[usize],
     finders: &Finders,
+    covers: &Covers,
     exact: &mut Exact,
     other: usize,
+    group: usize,
     first: usize,
     end: usize,
 ) -> Result<Option<usize>, AllocError>
     requires spans { AreSpans program.now (block_of names.now) }
-    requires listing { IsListing program.now (block_of names.now) columns.now finders.now }
+    requires rising { IsRising (group_at finders.now group) }
+    requires covers { AreCovers columns.now finders.now covers.now }
     requires asked { IsAsked program.now exact.old }
     ensures partners { exact.new.partners ≡ exact.old.partners }
     ensures asked { IsAsked program.now exact.new }
     ensures none { IfOk result (λ found.
-        IfNone found (ShowsFrom program.now (with_partners exact.old.partners) columns.now told.now (λ more.
-        (finder own : ℕ) → first ≤ finder → finder < end → partner_of state.now finder ≡ Some own →
-        IsTrue (are_fit program.now own finder) →
-        IsNoRace program.now (block_of names.now) state.now more finder own other))) }
+        IfNone found (ShowsFrom program.now (with_partners exact.old.partners) columns.now told.now
+        (AreNoRaces program.now (block_of names.now) state.now (group_at finders.now group) first end other))) }
     ensures rival { IfOk result (λ found. IfSome found (IsRivalIfSingle program.now (block_of names.now) state.now other)) }
     ensures unordered { IfOk result (λ found. IfSome found (λ finder.
         IsUnorderedBy program.now (with_partners exact.old.partners) other finder)) }
 {
-    let low = first_unknown(columns, told, finders, other, finders.before(first));
-    let high = finders.before(end);
+    let low = first_unknown(told, covers, other, group, finders.before(group, first));
+    let high = finders.before(group, end);
     for place in low..high {
         let found = race_at(
-            alloc, program, state, columns, told, names, finders, exact, other, place,
+            alloc, program, state, columns, told, names, finders, exact, other, group, place,
         )?;
         if let Some(finder) = found {
             return Ok(Some(finder));
@@ -279,12 +276,14 @@ fn race_of_send(
     told: &[Count],
     names: &[usize],
     finders: &Finders,
+    covers: &Covers,
     classes: &Classes,
     exact: &mut Exact,
     other: usize,
 ) -> Result<Option<usize>, AllocError>
     requires spans { AreSpans program.now (block_of names.now) }
-    requires listing { IsListing program.now (block_of names.now) columns.now finders.now }
+    requires listing { IsListing program.now (block_of names.now) finders.now }
+    requires covers { AreCovers columns.now finders.now covers.now }
     requires asked { IsAsked program.now exact.old }
     ensures partners { exact.new.partners ≡ exact.old.partners }
     ensures asked { IsAsked program.now exact.new }
@@ -298,16 +297,149 @@ fn race_of_send(
     if !state.is_issued(program, other) {
         return Ok(None);
     }
-    let first = classes.first_open(program, state, names, other);
+    let Some(message) = message_of(program, other) else {
+        return Ok(None);
+    };
     let start = classes.rank_start(program, other);
     let end = end_open(program, state, names, other);
     let last = classes.rank_end(program, other);
-    let low = larger(first, start);
     let high = smaller(end, last);
-    let found = race_between(
-        alloc, program, state, columns, told, names, finders, exact, other, low, high,
+    let groups = finders.count();
+    let first = classes.first_open(program, state, names, other);
+    let low = larger(first, start);
+    let named = group_of(
+        groups,
+        message.destination,
+        message.communicator,
+        Some(message.tag),
+    );
+    let by_tag = race_in_group(
+        alloc, program, state, columns, told, names, finders, covers, exact, other, named, low,
+        high,
     )?;
-    Ok(found)
+    if let Some(finder) = by_tag {
+        return Ok(Some(finder));
+    }
+    let first_any = classes.first_open_of_any(program, state, names, other);
+    let low_any = larger(first_any, start);
+    let any = group_of(groups, message.destination, message.communicator, None);
+    let by_any = race_in_group(
+        alloc, program, state, columns, told, names, finders, covers, exact, other, any, low_any,
+        high,
+    )?;
+    Ok(by_any)
+}
+
+/// The message of the call, if it is a send.
+fn message_of(program: &LongProgram, send: usize) -> Option<Message>
+    ensures some { IfSome result (Sends program.now send) }
+    ensures none { IfNone result ((finder : ℕ) → IsTrue (are_fit program.now send finder) → ⊥) }
+{
+    match program.call(send) {
+        None => None,
+        Some(call) => call.kind.message(),
+    }
+}
+
+/// Whether a finder of the group, from one call up to another, isn't settled without counts.
+fn is_open_in_group(
+    program: &LongProgram,
+    state: &State,
+    columns: &Columns,
+    names: &[usize],
+    finders: &Finders,
+    other: usize,
+    group: usize,
+    first: usize,
+    end: usize,
+) -> bool
+    requires spans { AreSpans program.now (block_of names.now) }
+    requires rising { IsRising (group_at finders.now group) }
+{
+    for place in finders.before(group, first)..finders.before(group, end) {
+        if let Some(finder) = finders.at(group, place) {
+            if !is_no_race_if_found(program, state, columns, &[], names, finder, other) {
+                return true;
+            }
+        }
+    }
+    false
+}
+
+/// Whether the send needs a count of the rank that it goes to.
+fn needs_count(
+    program: &LongProgram,
+    state: &State,
+    columns: &Columns,
+    names: &[usize],
+    finders: &Finders,
+    classes: &Classes,
+    other: usize,
+    message: &Message,
+) -> bool
+    requires spans { AreSpans program.now (block_of names.now) }
+    requires listing { IsListing program.now (block_of names.now) finders.now }
+{
+    if !state.is_issued(program, other) {
+        return false;
+    }
+    let start = classes.rank_start(program, other);
+    let high = smaller(
+        end_open(program, state, names, other),
+        classes.rank_end(program, other),
+    );
+    let groups = finders.count();
+    let named = group_of(
+        groups,
+        message.destination,
+        message.communicator,
+        Some(message.tag),
+    );
+    let from = larger(classes.first_open(program, state, names, other), start);
+    if is_open_in_group(
+        program, state, columns, names, finders, other, named, from, high,
+    ) {
+        return true;
+    }
+    let any = group_of(groups, message.destination, message.communicator, None);
+    let from = larger(
+        classes.first_open_of_any(program, state, names, other),
+        start,
+    );
+    is_open_in_group(
+        program, state, columns, names, finders, other, any, from, high,
+    )
+}
+
+/// For each rank whether a send that goes to it needs a count. The only error is want of memory.
+fn needed_ranks(
+    alloc: Global,
+    program: &LongProgram,
+    state: &State,
+    columns: &Columns,
+    names: &[usize],
+    finders: &Finders,
+    classes: &Classes,
+) -> Result<Vec<bool>, AllocError>
+    requires spans { AreSpans program.now (block_of names.now) }
+    requires listing { IsListing program.now (block_of names.now) finders.now }
+{
+    let mut needed = vec![in alloc; false; program.ranks() as usize]?;
+    for send in 0..program.calls().len() {
+        if let Some(message) = message_of(program, send) {
+            let rank = message.destination as usize;
+            if needed.get(rank).copied() == Some(false) {
+                if needs_count(
+                    program, state, columns, names, finders, classes, send, &message,
+                ) {
+                    if let Some(slot) = needed.get_mut(rank) {
+                        *slot = true;
+                    }
+                }
+            }
+        }
+    }
+    Ok(needed)
 }
 
 /// The first send that races, with the finder. The only error is want of memory.
@@ -319,11 +451,13 @@ fn race_in(
     told: &[Count],
     names: &[usize],
     finders: &Finders,
+    covers: &Covers,
     classes: &Classes,
     exact: &mut Exact,
 ) -> Result<Option<Race>, AllocError>
     requires spans { AreSpans program.now (block_of names.now) }
-    requires listing { IsListing program.now (block_of names.now) columns.now finders.now }
+    requires listing { IsListing program.now (block_of names.now) finders.now }
+    requires covers { AreCovers columns.now finders.now covers.now }
     requires asked { IsAsked program.now exact.old }
     ensures none { IfOk result (λ found.
         IfNone found (ShowsFrom program.now (with_partners exact.old.partners) columns.now told.now (λ more.
@@ -334,7 +468,7 @@ fn race_in(
 {
     for send in 0..program.calls().len() {
         let found = race_of_send(
-            alloc, program, state, columns, told, names, finders, classes, exact, send,
+            alloc, program, state, columns, told, names, finders, covers, classes, exact, send,
         )?;
         if let Some(finder) = found {
             return Ok(Some(Race { send, finder }));
@@ -451,10 +585,13 @@ fn race_by(
 {
     let _calls = program.calls();
     let partners = partners_of(alloc, program, state, names)?;
-    let columns = Columns::new(alloc, program)?;
-    let told = told_of(alloc, program, &columns, partners.as_slice(), run)?;
-    let finders = Finders::new(alloc, program, names, &columns)?;
     let classes = Classes::new(alloc, program)?;
+    let none = Columns::none(alloc);
+    let finders = Finders::new(alloc, program, names)?;
+    let needed = needed_ranks(alloc, program, state, &none, names, &finders, &classes)?;
+    let columns = Columns::new(alloc, program, needed.as_slice())?;
+    let covers = Covers::new(alloc, &columns, &finders)?;
+    let told = told_of(alloc, program, &columns, partners.as_slice(), run)?;
     let order = issue_order(alloc, program, run)?;
     let mut exact = Exact::new(alloc, partners, order);
     let found = race_in(
@@ -465,6 +602,7 @@ fn race_by(
         told.as_slice(),
         names,
         &finders,
+        &covers,
         &classes,
         &mut exact,
     )?;

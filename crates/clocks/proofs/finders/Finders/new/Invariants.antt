@@ -1,6 +1,6 @@
 use Rattle.clocks.specs.parts.Clocks.{block_of}
-use Rattle.clocks.specs.parts.Finders.{AreListedUpTo}
+use Rattle.clocks.specs.parts.Finders.{AreGroupedUpTo}
 use Rattle.clocks.proofs.finders.Finders.new.Given as goal
 
 abbrev pub invariant-loop-call : goal.invariant-loop-call
-invariant-loop-call l = AreListedUpTo l.program (block_of l.names) l.call l.listed.items l.before.items
+invariant-loop-call l = AreGroupedUpTo l.program (block_of l.names) l.call l.groups.items
