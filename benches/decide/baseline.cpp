@@ -78,8 +78,49 @@ static void reduce(Maker &m, u32 ranks, u32 tag, bool any_source) {
     }
 }
 
+// Messages that are told apart by their tags, or by who can send them, and are taken from any source. False: there is no such program.
+static bool any_source(Maker &m, const std::string &name, u32 ranks, u32 iterations) {
+    std::vector<u32> open;
+    for (u32 i = 0; i < iterations; i++) {
+        u32 worker = 1 + i % (ranks - 1);
+        if (name == "tags") {    // each message has a tag of its own
+            m.send(worker, 0, i);
+            m.recv(0, NONE, i);
+        } else if (name == "open-any") {    // so, and all receives are open at once
+            m.send(worker, 0, i);
+            open.push_back(m.irecv(0, NONE, i));
+        } else if (name == "any-tags") {    // so, of one sender, and the receives take any tag
+            m.send(1, 0, i);
+            m.recv(0, NONE, NONE);
+        } else if (name == "unreceived") {    // beside wildcards, messages of tags of their own that nobody takes
+            m.send(1, 0, i % 7, BUFFERED);
+            m.recv(0, NONE, i % 7);
+            m.send(2 + i % (ranks - 2), 0, 10 + i, BUFFERED);
+        } else if (name == "ring-any") {    // each rank has wildcards that one other can send to
+            for (u32 r = 0; r < ranks; r++) {
+                m.send(r, (r + 1) % ranks, 1, BUFFERED);
+                m.recv(r, NONE, 1);
+            }
+        } else if (name == "chain-any") {    // so, from the last rank to the first
+            for (u32 r = 0; r < ranks; r++) {
+                if (r + 1 < ranks) m.recv(r, NONE, 1);
+                if (r) m.send(r, r - 1, 1);
+            }
+        } else if (name == "alltoall-any") {    // each rank sends to all others, with its number as the tag
+            for (u32 r = 0; r < ranks; r++) {
+                for (u32 o = 1; o < ranks; o++) m.send(r, (r + o) % ranks, r, BUFFERED);
+                for (u32 o = 1; o < ranks; o++) m.recv(r, NONE, (r + ranks - o) % ranks);
+            }
+        } else
+            return false;
+    }
+    for (u32 q : open) m.wait(0, q);
+    return true;
+}
+
 static Program program(const std::string &name, u32 ranks, u32 iterations) {
     Maker m(ranks);
+    if (any_source(m, name, ranks, iterations)) return m.make(ANY);
     u32 side = std::lround(std::sqrt((double)ranks));
     Policy policy = ANY;
     for (u32 i = 0; i < iterations; i++) {
