@@ -240,7 +240,7 @@ filter_once test (x ∷ xs) once = by (test x) refl
 pub missing_takers_leave_messages : MissingTakersLeaveMessages
 missing_takers_leave_messages p sides steps order wrong run =
     let fewer = no_more (length firsts) (length sides.takers.items) (Goes e firsts sides.takers.items) to
-        (λ i j k l m v w. go_once e firsts sides.takers.items (filter_once (is_matched e) sides.sends.items wrong.are.sends.once) i j k v w) in
+    (λ i j k l m v w. go_once e firsts sides.takers.items (filter_once (is_matched e) sides.sends.items wrong.are.sends.once) i j k v w) in
     omega (arith, fewer, length-filter_both (is_matched e) (is_unmatched e) (λ (x : ℕ). refl) sides.sends.items, length-filter (is_unmatched e) sides.sends.items)
   where
     e : Configuration
