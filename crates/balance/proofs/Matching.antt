@@ -191,7 +191,7 @@ taken_there p e channel send kept own on matched =
 
 -- ---- places of a list none of which stands twice
 
-Once : List ℕ → Type 0
+abbrev Once : List ℕ → Type 0
 Once xs = (i j c : ℕ) → slice_get xs i ≡ Some c → slice_get xs j ≡ Some c → i ≡ j
 
 -- where an item of those that pass a test stands
@@ -200,42 +200,36 @@ record StandsAt (test : ℕ → Bool) (xs : List ℕ) (c : ℕ) : Type 0 where
   there : slice_get xs at ≡ Some c
   passes : test c ≡ true
 
+-- where an item of those that pass a test stands in the whole list, by where it stands in the rest
+first_or_rest : (test : ℕ → Bool) (x : ℕ) (xs : List ℕ) (c : ℕ) → ((k : ℕ) → slice_get (filter test xs) k ≡ Some c → StandsAt test xs c)
+    → (b : Bool) → test x ≡ b → (i : ℕ) → slice_get (cond b (x ∷ filter test xs) (filter test xs)) i ≡ Some c → StandsAt test (x ∷ xs) c
+first_or_rest test x xs c rest true e zero is = record { at = 0; there = is; passes = ap test (sym (same_some x c is)) ∙ e }
+first_or_rest test x xs c rest true e (suc k) is = let w = rest k is in record { at = suc w.at; there = w.there; passes = w.passes }
+first_or_rest test x xs c rest false e i is = let w = rest i is in record { at = suc w.at; there = w.there; passes = w.passes }
+
 stands : (test : ℕ → Bool) (xs : List ℕ) (i c : ℕ) → slice_get (filter test xs) i ≡ Some c → StandsAt test xs c
 stands test [] i c there = absurd (cc)
-stands test (x ∷ xs) i c there = by (test x) refl
-  where
-    by : (b : Bool) → test x ≡ b → StandsAt test (x ∷ xs) c
-    by true e = here i (ap (λ (b : Bool). slice_get (cond b (x ∷ filter test xs) (filter test xs)) i) (sym e) ∙ there)
-      where
-        here : (k : ℕ) → slice_get (x ∷ filter test xs) k ≡ Some c → StandsAt test (x ∷ xs) c
-        here zero is = record { at = 0; there = is; passes = ap test (sym (same_some x c is)) ∙ e }
-        here (suc k) is = let w = stands test xs k c is in record { at = suc w.at; there = w.there; passes = w.passes }
-    by false e =
-        let w = stands test xs i c (ap (λ (b : Bool). slice_get (cond b (x ∷ filter test xs) (filter test xs)) i) (sym e) ∙ there) in
-        record { at = suc w.at; there = w.there; passes = w.passes }
+stands test (x ∷ xs) i c there = first_or_rest test x xs c (λ k is. stands test xs k c is) (test x) refl i there
 
 once_of_rest : (x : ℕ) (xs : List ℕ) → Once (x ∷ xs) → Once xs
 once_of_rest x xs once i j c a b = let e = once (suc i) (suc j) c a b in omega (arith, e)
 
+-- none stands twice among those that pass, where none does in the rest and the first isn't there
+once_more : (x : ℕ) (ys : List ℕ) → Once ys → ((k : ℕ) → slice_get ys k ≡ Some x → ⊥) → Once (x ∷ ys)
+once_more x ys rest first zero zero c a b = refl
+once_more x ys rest first zero (suc j) c a b = absurd (first j (b ∙ sym a))
+once_more x ys rest first (suc i) zero c a b = absurd (first i (a ∙ sym b))
+once_more x ys rest first (suc i) (suc j) c a b = ap suc (rest i j c a b)
+
+once_if : (x : ℕ) (ys : List ℕ) (b : Bool) → Once ys → ((k : ℕ) → slice_get ys k ≡ Some x → ⊥) → Once (cond b (x ∷ ys) ys)
+once_if x ys true rest first = once_more x ys rest first
+once_if x ys false rest first = rest
+
 filter_once : (test : ℕ → Bool) (xs : List ℕ) → Once xs → Once (filter test xs)
-filter_once test [] once i j c a b = absurd (cc)
-filter_once test (x ∷ xs) once = by (test x) refl
-  where
-    rest : Once (filter test xs)
-    rest = filter_once test xs (once_of_rest x xs once)
-
-    first : (k : ℕ) → slice_get (filter test xs) k ≡ Some x → ⊥
-    first k there = let w = stands test xs k x there in let e = once 0 (suc w.at) x refl w.there in omega (arith, e)
-
-    both : Once (x ∷ filter test xs)
-    both zero zero c a b = refl
-    both zero (suc j) c a b = absurd (first j (b ∙ sym a))
-    both (suc i) zero c a b = absurd (first i (a ∙ sym b))
-    both (suc i) (suc j) c a b = ap suc (rest i j c a b)
-
-    by : (b : Bool) → test x ≡ b → Once (filter test (x ∷ xs))
-    by true e = subst (λ (b : Bool). Once (cond b (x ∷ filter test xs) (filter test xs))) (sym e) both
-    by false e = subst (λ (b : Bool). Once (cond b (x ∷ filter test xs) (filter test xs))) (sym e) rest
+filter_once test [] once = once
+filter_once test (x ∷ xs) once =
+    once_if x (filter test xs) (test x) (filter_once test xs (once_of_rest x xs once))
+    (λ k there. let w = stands test xs k x there in let e = once 0 (suc w.at) x refl w.there in omega (arith, e))
 
 pub missing_takers_leave_messages : MissingTakersLeaveMessages
 missing_takers_leave_messages p sides steps order wrong run =
