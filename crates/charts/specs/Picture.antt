@@ -283,7 +283,7 @@ end_words true = codes "ends well"
 abbrev pub head : Bool → ℕ → ℕ → List ℕ
 head well width height =
     codes "<svg xmlns=\"http://www.w3.org/2000/svg\" viewBox=\"0 0 "
-    ++ (numeral width ++ (codes " " ++ (numeral height ++ (codes "\" width=\"" ++ (numeral width ++ (codes "\" height=\"" ++ (numeral height ++ (codes "\" font-family=\"DejaVu Sans,Helvetica,sans-serif\" font-size=\"12\">\n<title>Timeline of a run that " ++ (end_words well ++ codes "</title>\n<defs><marker id=\"taken" ++ (number_of well ++ (codes "\" viewBox=\"0 0 8 8\" refX=\"7\" refY=\"4\" markerWidth=\"7\" markerHeight=\"7\" markerUnits=\"userSpaceOnUse\" orient=\"auto\"><path d=\"M0 0L8 4L0 8z\" fill=\"#333\"/></marker><marker id=\"chosen" ++ (number_of well ++ (codes "\" viewBox=\"0 0 8 8\" refX=\"7\" refY=\"4\" markerWidth=\"9\" markerHeight=\"9\" markerUnits=\"userSpaceOnUse\" orient=\"auto\"><path d=\"M0 0L8 4L0 8z\" fill=\"#e8870e\"/></marker><marker id=\"cycle" ++ (number_of well ++ (codes "\" viewBox=\"0 0 8 8\" refX=\"7\" refY=\"4\" markerWidth=\"9\" markerHeight=\"9\" markerUnits=\"userSpaceOnUse\" orient=\"auto\"><path d=\"M0 0L8 4L0 8z\" fill=\"#d62728\"/></marker></defs>\n<rect width=\"100%\" height=\"100%\" fill=\"white\"/>\n<g class=\"legend\" font-size=\"11\"><rect x=\"10\" y=\"12\" width=\"14\" height=\"12\" rx=\"3\" fill=\"#8fb8de\"/><text x=\"28\" y=\"22\">send</text><rect x=\"64\" y=\"12\" width=\"14\" height=\"12\" rx=\"3\" fill=\"#d6e4f2\"/><text x=\"82\" y=\"22\">buffered send</text><rect x=\"172\" y=\"12\" width=\"14\" height=\"12\" rx=\"3\" fill=\"#a3d39c\"/><text x=\"190\" y=\"22\">receive</text><rect x=\"242\" y=\"12\" width=\"14\" height=\"12\" rx=\"3\" fill=\"#d5b3d6\"/><text x=\"260\" y=\"22\">probe</text><rect x=\"302\" y=\"12\" width=\"14\" height=\"12\" rx=\"3\" fill=\"#cfcac6\"/><text x=\"320\" y=\"22\">wait</text><rect x=\"354\" y=\"12\" width=\"14\" height=\"12\" rx=\"3\" fill=\"#fbdada\" stroke=\"#d62728\"/><text x=\"372\" y=\"22\">never returns</text><path d=\"M460 18H480\" stroke=\"#e8870e\" stroke-width=\"2\" marker-end=\"url(#chosen" ++ (number_of well ++ (codes ")\"/><text x=\"486\" y=\"22\">others fitted too</text></g>\n")))))))))))))))))
+    ++ (numeral width ++ (codes " " ++ (numeral height ++ (codes "\" width=\"" ++ (numeral width ++ (codes "\" height=\"" ++ (numeral height ++ (codes "\" font-family=\"DejaVu Sans,Helvetica,sans-serif\" font-size=\"12\">\n<title>Timeline of a run that " ++ (end_words well ++ (codes "</title>\n<defs><marker id=\"taken" ++ (number_of well ++ (codes "\" viewBox=\"0 0 8 8\" refX=\"7\" refY=\"4\" markerWidth=\"7\" markerHeight=\"7\" markerUnits=\"userSpaceOnUse\" orient=\"auto\"><path d=\"M0 0L8 4L0 8z\" fill=\"#333\"/></marker><marker id=\"chosen" ++ (number_of well ++ (codes "\" viewBox=\"0 0 8 8\" refX=\"7\" refY=\"4\" markerWidth=\"9\" markerHeight=\"9\" markerUnits=\"userSpaceOnUse\" orient=\"auto\"><path d=\"M0 0L8 4L0 8z\" fill=\"#e8870e\"/></marker><marker id=\"cycle" ++ (number_of well ++ (codes "\" viewBox=\"0 0 8 8\" refX=\"7\" refY=\"4\" markerWidth=\"9\" markerHeight=\"9\" markerUnits=\"userSpaceOnUse\" orient=\"auto\"><path d=\"M0 0L8 4L0 8z\" fill=\"#d62728\"/></marker></defs>\n<rect width=\"100%\" height=\"100%\" fill=\"white\"/>\n<g class=\"legend\" font-size=\"11\"><rect x=\"10\" y=\"12\" width=\"14\" height=\"12\" rx=\"3\" fill=\"#8fb8de\"/><text x=\"28\" y=\"22\">send</text><rect x=\"64\" y=\"12\" width=\"14\" height=\"12\" rx=\"3\" fill=\"#d6e4f2\"/><text x=\"82\" y=\"22\">buffered send</text><rect x=\"172\" y=\"12\" width=\"14\" height=\"12\" rx=\"3\" fill=\"#a3d39c\"/><text x=\"190\" y=\"22\">receive</text><rect x=\"242\" y=\"12\" width=\"14\" height=\"12\" rx=\"3\" fill=\"#d5b3d6\"/><text x=\"260\" y=\"22\">probe</text><rect x=\"302\" y=\"12\" width=\"14\" height=\"12\" rx=\"3\" fill=\"#cfcac6\"/><text x=\"320\" y=\"22\">wait</text><rect x=\"354\" y=\"12\" width=\"14\" height=\"12\" rx=\"3\" fill=\"#fbdada\" stroke=\"#d62728\"/><text x=\"372\" y=\"22\">never returns</text><path d=\"M460 18H480\" stroke=\"#e8870e\" stroke-width=\"2\" marker-end=\"url(#chosen" ++ (number_of well ++ (codes ")\"/><text x=\"486\" y=\"22\">others fitted too</text></g>\n"))))))))))))))))))
 
 -- what stands above the rows
 abbrev pub top : Bool → ℕ → ℕ → List ℕ
