@@ -278,6 +278,54 @@ def keeps_what_it_should(program, room):
             and names == ['linked', 'relay.evidence', 'relay.evidence.0.part', 'relay.mpi'])
 
 
+def shows_names(program, room):
+    """The same: in rows a name is one word of a line, whatever bytes it has."""
+    name = 'a\nprogram b: deadlock\x1b[31m.mpi'
+    with tempfile.TemporaryDirectory(dir=room) as folder:
+        put(folder, name, 'ranks 1\npolicy any\nrank 0\n')
+        ran = subprocess.run([program, 'decide', name, name], cwd=folder, stdout=subprocess.PIPE, timeout=SECONDS)
+        row = b'program a?program b: deadlock?[31m.mpi: no deadlock\n'
+        return 'a name in a row has a question mark for each byte that is no printable ASCII', (ran.returncode, ran.stdout) == (0, row * 2)
+
+
+def tells_full_disk(program, room):
+    """The same: a device that is full while it is written is told as such."""
+    ran = subprocess.run([program, 'decide', 'relay.mpi', '--out', '/dev/full'], cwd=HERE, stdout=subprocess.PIPE,
+                         stderr=subprocess.PIPE, timeout=SECONDS)
+    ended = ran.returncode, ran.stdout, ran.stderr
+    shrunk = subprocess.run([program, 'shrink', os.path.join(os.path.dirname(os.path.dirname(HERE)), 'examples', 'head-to-head.mpi'),
+                             '--out', '/dev/full'], stdout=subprocess.PIPE, stderr=subprocess.PIPE, timeout=SECONDS)
+    return 'a full disk is told as one', (
+        ended == (0, b'no deadlock\n', b'')
+        and (shrunk.returncode, shrunk.stdout, shrunk.stderr) == (5, b'', b'file /dev/full\nthe disk is full\n'))
+
+
+def names_each_id_once(program, room):
+    """The same: of the parts of a page with two pictures no two have one name, and what is named is there."""
+    example = os.path.join(os.path.dirname(os.path.dirname(HERE)), 'examples', 'head-to-head.mpi')
+    page = subprocess.run([program, 'explain', example, '--html'], stdout=subprocess.PIPE, timeout=SECONDS).stdout
+    ids = re.findall(rb' id="([^"]*)"', page)
+    return 'each name of a part of a page stands once', (
+        page.count(b'<svg ') == 2 and len(ids) == len(set(ids)) and set(re.findall(rb'url\(#([^)]*)\)', page)) <= set(ids))
+
+
+def colors_without_memory(program, room):
+    """The same: where memory runs out, an answer that is to be in color is printed without it, or want of memory is."""
+    if not shutil.which('gcc'):
+        return 'without gcc no memory is refused', True
+    shim, wrong = built_shim(room), []
+    right = [(0, b'\x1b[1;32mno deadlock\n\x1b[0m', b''), (0, b'no deadlock\n', b''), (4, b'unknown memory\n', b''),
+             (4, b'\x1b[1;33munknown memory\n\x1b[0m', b''), (4, b'', b'memory\n')]
+    for place in range(1, 900, 3):
+        ran = subprocess.run([program, 'decide', 'relay.mpi', '--color', 'always'], cwd=HERE, stdout=subprocess.PIPE,
+                             stderr=subprocess.PIPE, timeout=SECONDS,
+                             env={**os.environ, 'LD_PRELOAD': shim, 'REFUSE': f'memory:{place}:on:0'})
+        ended = ran.returncode, ran.stdout, ran.stderr
+        if ended not in right:
+            wrong.append((place, ended))
+    return f'an answer in color that lacks memory is printed without it: {wrong[:3]}', not wrong
+
+
 def judged(runs, where, row):
     """Whether a row holds, or None where that can't be told here, and what to say of it."""
     try:
@@ -287,6 +335,9 @@ def judged(runs, where, row):
     if not found:
         return (None if found is None else True), ''
     return False, '\n'.join(f'{where}: {words} left {str(ended)[:2000]}' for words, ended in found)
+
+
+LOOKS = [keeps_what_it_should, shows_names, tells_full_disk, names_each_id_once, colors_without_memory]
 
 
 def main(paths):
@@ -303,7 +354,7 @@ def main(paths):
                 passed, failed, skipped = passed + (holds is True), failed + (holds is False), skipped + (holds is None)
                 if told:
                     print(told, flush=True)
-        for what, holds in () if paths else [*judged_exports(program, room), keeps_what_it_should(program, room)]:
+        for what, holds in () if paths else [*judged_exports(program, room), *(look(program, room) for look in LOOKS)]:
             passed, failed = passed + holds, failed + (not holds)
             if not holds:
                 print(f"it doesn't hold: {what}")

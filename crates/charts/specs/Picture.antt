@@ -143,10 +143,16 @@ abbrev pub dash_of : Bool → List ℕ
 dash_of false = []
 dash_of true = codes " stroke-dasharray=\"4 3\""
 
--- a message that was chosen where others fitted too is orange
+-- the number of a picture in the names of its heads of arrows: a page may show one of a run that
+-- gets stuck and one of a run that ends well
+abbrev pub number_of : Bool → List ℕ
+number_of false = codes "1"
+number_of true = codes "2"
+
+-- a message that was chosen where others fitted too is orange; behind this stands the number
 abbrev pub stroke_of : Bool → List ℕ
-stroke_of false = codes " fill=\"none\" stroke=\"#333\" opacity=\".75\" marker-end=\"url(#taken)\""
-stroke_of true = codes " fill=\"none\" stroke=\"#e8870e\" stroke-width=\"2\" opacity=\".85\" marker-end=\"url(#chosen)\""
+stroke_of false = codes " fill=\"none\" stroke=\"#333\" opacity=\".75\" marker-end=\"url(#taken"
+stroke_of true = codes " fill=\"none\" stroke=\"#e8870e\" stroke-width=\"2\" opacity=\".85\" marker-end=\"url(#chosen"
 
 -- a way from so many pixels below the place y of a row to so many below that of another
 abbrev pub straight : ℕ → ℕ → ℕ → ℕ → List ℕ
@@ -167,31 +173,31 @@ way ranks from to from_x to_x =
 abbrev pub find_title : Label → Bool → Label → List ℕ
 find_title send sees finder = codes "<g class=\"step\"><title>" ++ (told_words send ++ (find_link sees ++ (told_words finder ++ codes "</title><path d=\"")))
 
-abbrev pub drawn_find : ℕ → ℕ → ℕ → Bool → Label → Bool → Label → List ℕ
-drawn_find ranks from_x to_x chosen send sees finder =
-    find_title send sees finder ++ (way ranks send.rank finder.rank from_x to_x ++ (stroke_of chosen ++ (dash_of sees ++ codes "/></g>\n")))
+abbrev pub drawn_find : Bool → ℕ → ℕ → ℕ → Bool → Label → Bool → Label → List ℕ
+drawn_find well ranks from_x to_x chosen send sees finder =
+    find_title send sees finder ++ (way ranks send.rank finder.rank from_x to_x ++ (stroke_of chosen ++ (number_of well ++ (codes ")\"" ++ (dash_of sees ++ codes "/></g>\n")))))
 
 -- the send is issued in a column, and its message is found in another one, or the same
-abbrev pub drawn_find_of : ℕ → ℕ → ℕ → ℕ → Bool → Option Label → Bool → Option Label → List ℕ
-drawn_find_of ranks count sent column chosen None sees finder = []
-drawn_find_of ranks count sent column chosen (Some send) sees None = []
-drawn_find_of ranks count sent column chosen (Some send) sees (Some finder) =
-    drawn_find ranks (tip_of count sent) (tip_of count column) chosen send sees finder
+abbrev pub drawn_find_of : Bool → ℕ → ℕ → ℕ → ℕ → Bool → Option Label → Bool → Option Label → List ℕ
+drawn_find_of well ranks count sent column chosen None sees finder = []
+drawn_find_of well ranks count sent column chosen (Some send) sees None = []
+drawn_find_of well ranks count sent column chosen (Some send) sees (Some finder) =
+    drawn_find well ranks (tip_of count sent) (tip_of count column) chosen send sees finder
 
 -- the message that the call finds is marked as chosen where others fitted too
 abbrev pub is_chosen : List Bool → ℕ → Bool
 is_chosen marks f = unwrap_or (slice_get marks f) false
 
 -- the arrow of a step, where it is no issue, and calls are issued at these columns
-abbrev pub drawn_arrow : ℕ → List Label → ℕ → (ℕ → ℕ) → List Bool → ℕ → Act → List ℕ
-drawn_arrow ranks calls count at marks column (Issue c buffered) = []
-drawn_arrow ranks calls count at marks column (Match s t) =
-    drawn_find_of ranks count (at s) column (is_chosen marks t) (slice_get calls s) false (slice_get calls t)
-drawn_arrow ranks calls count at marks column (See s f) =
-    drawn_find_of ranks count (at s) column (is_chosen marks f) (slice_get calls s) true (slice_get calls f)
+abbrev pub drawn_arrow : Bool → ℕ → List Label → ℕ → (ℕ → ℕ) → List Bool → ℕ → Act → List ℕ
+drawn_arrow well ranks calls count at marks column (Issue c buffered) = []
+drawn_arrow well ranks calls count at marks column (Match s t) =
+    drawn_find_of well ranks count (at s) column (is_chosen marks t) (slice_get calls s) false (slice_get calls t)
+drawn_arrow well ranks calls count at marks column (See s f) =
+    drawn_find_of well ranks count (at s) column (is_chosen marks f) (slice_get calls s) true (slice_get calls f)
 
-abbrev pub arrow_of : ℕ → List Label → ℕ → (ℕ → ℕ) → List Bool → PlacedAct → List ℕ
-arrow_of ranks calls count at marks step = drawn_arrow ranks calls count at marks step.column step.act
+abbrev pub arrow_of : Bool → ℕ → List Label → ℕ → (ℕ → ℕ) → List Bool → PlacedAct → List ℕ
+arrow_of well ranks calls count at marks step = drawn_arrow well ranks calls count at marks step.column step.act
 
 -- ---- the row of a rank
 
@@ -252,7 +258,7 @@ bend from to = if from + 1 == to then 40 else if to + 1 == from then 26 else if 
 abbrev pub arc_between : ℕ → ℕ → ℕ → ℕ → ℕ → List ℕ
 arc_between x past far from to =
     codes "<path d=\"M"
-    ++ (numeral x ++ (codes " " ++ (numeral from ++ (codes "C" ++ (numeral far ++ (codes " " ++ (numeral from ++ (codes " " ++ (numeral far ++ (codes " " ++ (numeral to ++ (codes " " ++ (numeral past ++ (codes " " ++ (numeral to ++ codes "\" fill=\"none\" stroke=\"#d62728\" stroke-width=\"2\" marker-end=\"url(#cycle)\"/></g>\n")))))))))))))))
+    ++ (numeral x ++ (codes " " ++ (numeral from ++ (codes "C" ++ (numeral far ++ (codes " " ++ (numeral from ++ (codes " " ++ (numeral far ++ (codes " " ++ (numeral to ++ (codes " " ++ (numeral past ++ (codes " " ++ (numeral to ++ codes "\" fill=\"none\" stroke=\"#d62728\" stroke-width=\"2\" marker-end=\"url(#cycle1)\"/></g>\n")))))))))))))))
 
 abbrev pub arc_title : ℕ → ℕ → List ℕ
 arc_title from to = codes "<g class=\"cycle\"><title>rank " ++ (numeral from ++ (codes " waits for rank " ++ (numeral to ++ codes "</title>")))
@@ -277,7 +283,7 @@ end_words true = codes "ends well"
 abbrev pub head : Bool → ℕ → ℕ → List ℕ
 head well width height =
     codes "<svg xmlns=\"http://www.w3.org/2000/svg\" viewBox=\"0 0 "
-    ++ (numeral width ++ (codes " " ++ (numeral height ++ (codes "\" width=\"" ++ (numeral width ++ (codes "\" height=\"" ++ (numeral height ++ (codes "\" font-family=\"DejaVu Sans,Helvetica,sans-serif\" font-size=\"12\">\n<title>Timeline of a run that " ++ (end_words well ++ codes "</title>\n<defs><marker id=\"taken\" viewBox=\"0 0 8 8\" refX=\"7\" refY=\"4\" markerWidth=\"7\" markerHeight=\"7\" markerUnits=\"userSpaceOnUse\" orient=\"auto\"><path d=\"M0 0L8 4L0 8z\" fill=\"#333\"/></marker><marker id=\"chosen\" viewBox=\"0 0 8 8\" refX=\"7\" refY=\"4\" markerWidth=\"9\" markerHeight=\"9\" markerUnits=\"userSpaceOnUse\" orient=\"auto\"><path d=\"M0 0L8 4L0 8z\" fill=\"#e8870e\"/></marker><marker id=\"cycle\" viewBox=\"0 0 8 8\" refX=\"7\" refY=\"4\" markerWidth=\"9\" markerHeight=\"9\" markerUnits=\"userSpaceOnUse\" orient=\"auto\"><path d=\"M0 0L8 4L0 8z\" fill=\"#d62728\"/></marker></defs>\n<rect width=\"100%\" height=\"100%\" fill=\"white\"/>\n<g class=\"legend\" font-size=\"11\"><rect x=\"10\" y=\"12\" width=\"14\" height=\"12\" rx=\"3\" fill=\"#8fb8de\"/><text x=\"28\" y=\"22\">send</text><rect x=\"64\" y=\"12\" width=\"14\" height=\"12\" rx=\"3\" fill=\"#d6e4f2\"/><text x=\"82\" y=\"22\">buffered send</text><rect x=\"172\" y=\"12\" width=\"14\" height=\"12\" rx=\"3\" fill=\"#a3d39c\"/><text x=\"190\" y=\"22\">receive</text><rect x=\"242\" y=\"12\" width=\"14\" height=\"12\" rx=\"3\" fill=\"#d5b3d6\"/><text x=\"260\" y=\"22\">probe</text><rect x=\"302\" y=\"12\" width=\"14\" height=\"12\" rx=\"3\" fill=\"#cfcac6\"/><text x=\"320\" y=\"22\">wait</text><rect x=\"354\" y=\"12\" width=\"14\" height=\"12\" rx=\"3\" fill=\"#fbdada\" stroke=\"#d62728\"/><text x=\"372\" y=\"22\">never returns</text><path d=\"M460 18H480\" stroke=\"#e8870e\" stroke-width=\"2\" marker-end=\"url(#chosen)\"/><text x=\"486\" y=\"22\">others fitted too</text></g>\n")))))))))
+    ++ (numeral width ++ (codes " " ++ (numeral height ++ (codes "\" width=\"" ++ (numeral width ++ (codes "\" height=\"" ++ (numeral height ++ (codes "\" font-family=\"DejaVu Sans,Helvetica,sans-serif\" font-size=\"12\">\n<title>Timeline of a run that " ++ (end_words well ++ (codes "</title>\n<defs><marker id=\"taken" ++ (number_of well ++ (codes "\" viewBox=\"0 0 8 8\" refX=\"7\" refY=\"4\" markerWidth=\"7\" markerHeight=\"7\" markerUnits=\"userSpaceOnUse\" orient=\"auto\"><path d=\"M0 0L8 4L0 8z\" fill=\"#333\"/></marker><marker id=\"chosen" ++ (number_of well ++ (codes "\" viewBox=\"0 0 8 8\" refX=\"7\" refY=\"4\" markerWidth=\"9\" markerHeight=\"9\" markerUnits=\"userSpaceOnUse\" orient=\"auto\"><path d=\"M0 0L8 4L0 8z\" fill=\"#e8870e\"/></marker><marker id=\"cycle" ++ (number_of well ++ (codes "\" viewBox=\"0 0 8 8\" refX=\"7\" refY=\"4\" markerWidth=\"9\" markerHeight=\"9\" markerUnits=\"userSpaceOnUse\" orient=\"auto\"><path d=\"M0 0L8 4L0 8z\" fill=\"#d62728\"/></marker></defs>\n<rect width=\"100%\" height=\"100%\" fill=\"white\"/>\n<g class=\"legend\" font-size=\"11\"><rect x=\"10\" y=\"12\" width=\"14\" height=\"12\" rx=\"3\" fill=\"#8fb8de\"/><text x=\"28\" y=\"22\">send</text><rect x=\"64\" y=\"12\" width=\"14\" height=\"12\" rx=\"3\" fill=\"#d6e4f2\"/><text x=\"82\" y=\"22\">buffered send</text><rect x=\"172\" y=\"12\" width=\"14\" height=\"12\" rx=\"3\" fill=\"#a3d39c\"/><text x=\"190\" y=\"22\">receive</text><rect x=\"242\" y=\"12\" width=\"14\" height=\"12\" rx=\"3\" fill=\"#d5b3d6\"/><text x=\"260\" y=\"22\">probe</text><rect x=\"302\" y=\"12\" width=\"14\" height=\"12\" rx=\"3\" fill=\"#cfcac6\"/><text x=\"320\" y=\"22\">wait</text><rect x=\"354\" y=\"12\" width=\"14\" height=\"12\" rx=\"3\" fill=\"#fbdada\" stroke=\"#d62728\"/><text x=\"372\" y=\"22\">never returns</text><path d=\"M460 18H480\" stroke=\"#e8870e\" stroke-width=\"2\" marker-end=\"url(#chosen" ++ (number_of well ++ (codes ")\"/><text x=\"486\" y=\"22\">others fitted too</text></g>\n"))))))))))))))))))
 
 -- what stands above the rows
 abbrev pub top : Bool → ℕ → ℕ → List ℕ
@@ -290,7 +296,7 @@ top well ranks count = head well (edge count + 460) (y_of ranks ranks + 20)
 abbrev pub picture_at : Bool → MpiProgram → Configuration → List Label → ℕ → (ℕ → ℕ) → List PlacedAct → List ℕ → List Bool → ℕ → List ℕ
 picture_at well p m calls count at steps cycle marks before =
     top well p.ranks count
-    ++ (undrawn_text before ++ (columns (rank_row p m calls count at cycle) p.ranks ++ (flat_map (box_of p m calls count) steps ++ (flat_map (arrow_of p.ranks calls count at marks) steps ++ (columns (arc_at p.ranks count cycle) (length cycle) ++ codes "</svg>\n")))))
+    ++ (undrawn_text before ++ (columns (rank_row p m calls count at cycle) p.ranks ++ (flat_map (box_of p m calls count) steps ++ (flat_map (arrow_of well p.ranks calls count at marks) steps ++ (columns (arc_at p.ranks count cycle) (length cycle) ++ codes "</svg>\n")))))
 
 abbrev pub picture_with : Bool → MpiProgram → Configuration → List Label → ℕ → List PlacedAct → List ℕ → List Bool → ℕ → List ℕ
 picture_with well p m calls count steps cycle marks before = picture_at well p m calls count (column_of steps) steps cycle marks before

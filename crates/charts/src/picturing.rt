@@ -7,7 +7,7 @@ ghost use Rattle.scene.specs.Labels.{shortened};
 ghost use Rattle.semantics.specs.RunEnds.{IsFinished};
 ghost use Rattle.semantics.specs.Machine.{IsRun, opening};
 ghost use Rattle.charts.specs.Chart.{columns};
-ghost use Rattle.charts.specs.Picture.{IsPicture, IsRunToEnd, arc, arc_at, arc_between, arc_title, arrow_of, bar, bend, box, box_head, box_of, by_width, colour_of_call, colour_of_kind, dash_of, drawn_arrow, drawn_box, drawn_find, drawn_find_of, drawn_issue, drawn_issue_of, edge, end_words, escape, find_title, finished, head, hop, is_chosen, is_in, is_left_send, find_link, box_mark, name, name_colour, picture_at, rank_end, rank_row, row_head, straight, stroke_of, stub, tip_of, title, told_words, top, verb, waiting, waits_in, way, x_of, y_of};
+ghost use Rattle.charts.specs.Picture.{arc, arc_at, arc_between, arc_title, arrow_of, bar, bend, box, box_head, box_mark, box_of, by_width, colour_of_call, colour_of_kind, dash_of, drawn_arrow, drawn_box, drawn_find, drawn_find_of, drawn_issue, drawn_issue_of, edge, end_words, escape, find_link, find_title, finished, head, hop, is_chosen, is_in, is_left_send, IsPicture, IsRunToEnd, name, name_colour, number_of, picture_at, rank_end, rank_row, row_head, straight, stroke_of, stub, tip_of, title, told_words, top, verb, waiting, waits_in, way, x_of, y_of};
 
 use crate::cutting::{behind, put_undrawn_text, undrawn};
 use crate::placing::{PlacedAct, StepColumns, columns_of, issued_in};
@@ -387,10 +387,18 @@ fn stroke_of(chosen: bool) -> &'static str
     ensures { result.now ≡ stroke_of chosen }
 {
     if chosen {
-        " fill=\"none\" stroke=\"#e8870e\" stroke-width=\"2\" opacity=\".85\" marker-end=\"url(#chosen)\""
+        " fill=\"none\" stroke=\"#e8870e\" stroke-width=\"2\" opacity=\".85\" marker-end=\"url(#chosen"
     } else {
-        " fill=\"none\" stroke=\"#333\" opacity=\".75\" marker-end=\"url(#taken)\""
+        " fill=\"none\" stroke=\"#333\" opacity=\".75\" marker-end=\"url(#taken"
     }
+}
+
+/// The number of a picture in the names of its heads of arrows: a page may show one of a run that
+/// gets stuck and one of a run that ends well.
+fn number_of(well: bool) -> &'static str
+    ensures { result.now ≡ number_of well }
+{
+    if well { "2" } else { "1" }
 }
 
 /// Writes a straight way.
@@ -491,6 +499,7 @@ fn put_way(
 /// How the arrow of a message is drawn.
 #[derive(Clone, Copy)]
 struct Look {
+    well: bool,
     chosen: bool,
     sees: bool,
 }
@@ -522,7 +531,7 @@ fn put_told_find(
     send: &CallLabel,
     finder: &CallLabel,
 ) -> Result<(), AllocError>
-    ensures { OnOk result (out.new.items ≡ out.old.items ++ drawn_find ranks from_x to_x look.chosen send.now look.sees finder.now) }
+    ensures { OnOk result (out.new.items ≡ out.old.items ++ drawn_find look.well ranks from_x to_x look.chosen send.now look.sees finder.now) }
 {
     put_find_title(out, send, look.sees, finder)?;
     put_way(out, ranks, send.rank(), finder.rank(), from_x, to_x)?;
@@ -530,6 +539,8 @@ fn put_told_find(
         out,
         &[
             Part::Text(stroke_of(look.chosen)),
+            Part::Text(number_of(look.well)),
+            Part::Text(")\""),
             Part::Text(dash_of(look.sees)),
             Part::Text("/></g>\n"),
         ],
@@ -558,7 +569,7 @@ fn put_find(
     finder: usize,
 ) -> Result<(), AllocError>
     ensures { OnOk result (out.new.items ≡
-        out.old.items ++ drawn_find_of ranks count sent column look.chosen (slice_get calls.now send)
+        out.old.items ++ drawn_find_of look.well ranks count sent column look.chosen (slice_get calls.now send)
         look.sees (slice_get calls.now finder)) }
 {
     let Some(send) = calls.get(send) else {
@@ -576,6 +587,7 @@ fn put_find(
 /// Writes the arrow of a step in a column, where it is no issue.
 fn put_drawn_arrow(
     out: &mut Vec<u8>,
+    well: bool,
     ranks: u32,
     calls: &[CallLabel],
     placed: &StepColumns,
@@ -583,7 +595,7 @@ fn put_drawn_arrow(
     step: PlacedAct,
 ) -> Result<(), AllocError>
     ensures { OnOk result (out.new.items ≡
-        out.old.items ++ drawn_arrow ranks calls.now placed.now.count (slice_index placed.now.issues.items)
+        out.old.items ++ drawn_arrow well ranks calls.now placed.now.count (slice_index placed.now.issues.items)
         marks.now step.column step.act) }
 {
     let (send, sees, finder) = match step.act {
@@ -593,7 +605,7 @@ fn put_drawn_arrow(
     };
     let sent = issued_in(&placed.issues, send);
     let chosen = is_chosen(marks, finder);
-    let look = Look { chosen, sees };
+    let look = Look { well, chosen, sees };
     put_find(
         out,
         ranks,
@@ -611,17 +623,18 @@ fn put_drawn_arrow(
 /// Writes the arrows of all steps that are no issues.
 fn put_arrows(
     out: &mut Vec<u8>,
+    well: bool,
     ranks: u32,
     calls: &[CallLabel],
     placed: &StepColumns,
     marks: &[bool],
 ) -> Result<(), AllocError>
     ensures { OnOk result (out.new.items ≡
-        out.old.items ++ flat_map (arrow_of ranks calls.now placed.now.count (slice_index
+        out.old.items ++ flat_map (arrow_of well ranks calls.now placed.now.count (slice_index
         placed.now.issues.items) marks.now) placed.now.steps.items) }
 {
     for step in &placed.steps {
-        put_drawn_arrow(out, ranks, calls, placed, marks, *step)?;
+        put_drawn_arrow(out, well, ranks, calls, placed, marks, *step)?;
     }
     Ok(())
 }
@@ -877,7 +890,7 @@ fn put_arc_between(
             Part::Text(" "),
             Part::Number(to),
             Part::Text(
-                "\" fill=\"none\" stroke=\"#d62728\" stroke-width=\"2\" marker-end=\"url(#cycle)\"/></g>\n",
+                "\" fill=\"none\" stroke=\"#d62728\" stroke-width=\"2\" marker-end=\"url(#cycle1)\"/></g>\n",
             ),
         ],
     )?;
@@ -968,6 +981,7 @@ fn end_words(well: bool) -> &'static str
 fn put_head(out: &mut Vec<u8>, well: bool, width: u128, height: u128) -> Result<(), AllocError>
     ensures { OnOk result (out.new.items ≡ out.old.items ++ head well width height) }
 {
+    let number = number_of(well);
     put_parts(
         out,
         &[
@@ -983,9 +997,21 @@ fn put_head(out: &mut Vec<u8>, well: bool, width: u128, height: u128) -> Result<
                 "\" font-family=\"DejaVu Sans,Helvetica,sans-serif\" font-size=\"12\">\n<title>Timeline of a run that ",
             ),
             Part::Text(end_words(well)),
+            Part::Text("</title>\n<defs><marker id=\"taken"),
+            Part::Text(number),
             Part::Text(
-                "</title>\n<defs><marker id=\"taken\" viewBox=\"0 0 8 8\" refX=\"7\" refY=\"4\" markerWidth=\"7\" markerHeight=\"7\" markerUnits=\"userSpaceOnUse\" orient=\"auto\"><path d=\"M0 0L8 4L0 8z\" fill=\"#333\"/></marker><marker id=\"chosen\" viewBox=\"0 0 8 8\" refX=\"7\" refY=\"4\" markerWidth=\"9\" markerHeight=\"9\" markerUnits=\"userSpaceOnUse\" orient=\"auto\"><path d=\"M0 0L8 4L0 8z\" fill=\"#e8870e\"/></marker><marker id=\"cycle\" viewBox=\"0 0 8 8\" refX=\"7\" refY=\"4\" markerWidth=\"9\" markerHeight=\"9\" markerUnits=\"userSpaceOnUse\" orient=\"auto\"><path d=\"M0 0L8 4L0 8z\" fill=\"#d62728\"/></marker></defs>\n<rect width=\"100%\" height=\"100%\" fill=\"white\"/>\n<g class=\"legend\" font-size=\"11\"><rect x=\"10\" y=\"12\" width=\"14\" height=\"12\" rx=\"3\" fill=\"#8fb8de\"/><text x=\"28\" y=\"22\">send</text><rect x=\"64\" y=\"12\" width=\"14\" height=\"12\" rx=\"3\" fill=\"#d6e4f2\"/><text x=\"82\" y=\"22\">buffered send</text><rect x=\"172\" y=\"12\" width=\"14\" height=\"12\" rx=\"3\" fill=\"#a3d39c\"/><text x=\"190\" y=\"22\">receive</text><rect x=\"242\" y=\"12\" width=\"14\" height=\"12\" rx=\"3\" fill=\"#d5b3d6\"/><text x=\"260\" y=\"22\">probe</text><rect x=\"302\" y=\"12\" width=\"14\" height=\"12\" rx=\"3\" fill=\"#cfcac6\"/><text x=\"320\" y=\"22\">wait</text><rect x=\"354\" y=\"12\" width=\"14\" height=\"12\" rx=\"3\" fill=\"#fbdada\" stroke=\"#d62728\"/><text x=\"372\" y=\"22\">never returns</text><path d=\"M460 18H480\" stroke=\"#e8870e\" stroke-width=\"2\" marker-end=\"url(#chosen)\"/><text x=\"486\" y=\"22\">others fitted too</text></g>\n",
+                "\" viewBox=\"0 0 8 8\" refX=\"7\" refY=\"4\" markerWidth=\"7\" markerHeight=\"7\" markerUnits=\"userSpaceOnUse\" orient=\"auto\"><path d=\"M0 0L8 4L0 8z\" fill=\"#333\"/></marker><marker id=\"chosen",
             ),
+            Part::Text(number),
+            Part::Text(
+                "\" viewBox=\"0 0 8 8\" refX=\"7\" refY=\"4\" markerWidth=\"9\" markerHeight=\"9\" markerUnits=\"userSpaceOnUse\" orient=\"auto\"><path d=\"M0 0L8 4L0 8z\" fill=\"#e8870e\"/></marker><marker id=\"cycle",
+            ),
+            Part::Text(number),
+            Part::Text(
+                "\" viewBox=\"0 0 8 8\" refX=\"7\" refY=\"4\" markerWidth=\"9\" markerHeight=\"9\" markerUnits=\"userSpaceOnUse\" orient=\"auto\"><path d=\"M0 0L8 4L0 8z\" fill=\"#d62728\"/></marker></defs>\n<rect width=\"100%\" height=\"100%\" fill=\"white\"/>\n<g class=\"legend\" font-size=\"11\"><rect x=\"10\" y=\"12\" width=\"14\" height=\"12\" rx=\"3\" fill=\"#8fb8de\"/><text x=\"28\" y=\"22\">send</text><rect x=\"64\" y=\"12\" width=\"14\" height=\"12\" rx=\"3\" fill=\"#d6e4f2\"/><text x=\"82\" y=\"22\">buffered send</text><rect x=\"172\" y=\"12\" width=\"14\" height=\"12\" rx=\"3\" fill=\"#a3d39c\"/><text x=\"190\" y=\"22\">receive</text><rect x=\"242\" y=\"12\" width=\"14\" height=\"12\" rx=\"3\" fill=\"#d5b3d6\"/><text x=\"260\" y=\"22\">probe</text><rect x=\"302\" y=\"12\" width=\"14\" height=\"12\" rx=\"3\" fill=\"#cfcac6\"/><text x=\"320\" y=\"22\">wait</text><rect x=\"354\" y=\"12\" width=\"14\" height=\"12\" rx=\"3\" fill=\"#fbdada\" stroke=\"#d62728\"/><text x=\"372\" y=\"22\">never returns</text><path d=\"M460 18H480\" stroke=\"#e8870e\" stroke-width=\"2\" marker-end=\"url(#chosen",
+            ),
+            Part::Text(number),
+            Part::Text(")\"/><text x=\"486\" y=\"22\">others fitted too</text></g>\n"),
         ],
     )?;
     Ok(())
@@ -1047,7 +1073,7 @@ fn put_picture(
     put_undrawn_text(out, before)?;
     put_rows(out, alloc, program, end, calls, placed, cycle)?;
     put_boxes(out, alloc, program, end, calls, placed.count, &placed.steps)?;
-    put_arrows(out, ranks, calls, placed, marks)?;
+    put_arrows(out, well, ranks, calls, placed, marks)?;
     put_arcs(out, ranks, placed.count, cycle)?;
     put_text(out, "</svg>\n")?;
     Ok(())

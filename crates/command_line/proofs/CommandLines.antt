@@ -1,5 +1,5 @@
 -- Commands built up by rules, and what their matches give.
-use Rattle.std.specs.Prelude.{unwrap_or, is_some, IfOk}
+use Rattle.std.specs.Prelude.{unwrap_or, is_some, IfErr, IfOk, OnOk}
 use Rattle.std.specs.Str.{bytes_eq}
 use Rattle.std.specs.Str.Parse.{ExplainsUnsignedError, HasUnsignedDigitsIfOk, ParsesBool, ParsesUnsigned}
 use Rattle.std.proofs.lemmas.Slice.Eq.{bytes_eq-Decides}
@@ -13,13 +13,13 @@ use Rattle.clap.specs.declared.builder.command.Command.{Command}
 use Rattle.clap.specs.declared.parser.matches.ArgMatches.{ArgMatches}
 use Rattle.clap.proofs.WalkLemmas.{first_value-rows, one_text-rows, raw_values-rows}
 use Rattle.command_line.specs.CommandLine.{IsRuled, IsShapedAs, command_line}
-use Rattle.command_line.specs.Requests.{is_true, AskFor, Flags, Makes, MakesSome, NamesTask, Reads, Task, path_of, task_of, texts_in}
+use Rattle.command_line.specs.Requests.{is_true, names_twice, AskFor, Flags, IsRefusedBy, Makes, MakesSome, NamesTask, Reads, Task, path_of, task_of, texts_in}
 use Rattle.command_line.specs.declared.request.Request.{Request}
 use Rattle.std.specs.Prelude.{Box, List}
 use Rattle.std.specs.Box.{box_value}
 use Rattle.clap.specs.Words.{Row, is_simple, subcommand_name_of, subcommand_rows, subcommand_rows_of, subcommand_of, fault_of, kind_of, FailsBy, HasMatchesOf, IsAmong}
 use Rattle.clap.specs.declared.error.Error.{Error}
-use Rattle.clap.specs.declared.error.kind.ErrorKind.TheVariants.{OutOfMemory}
+use Rattle.clap.specs.declared.error.kind.ErrorKind.TheVariants.{ArgumentConflict, OutOfMemory}
 use Rattle.std.proofs.Common.{Result, Ok, [], Err, ◌⊎◌, inl, inr}
 use Rattle.clap.specs.Faults.{is_simple_and_free}
 use Rattle.clap.specs.declared.parser.matches.ArgMatches.TheViews.{out-ArgMatches, out-SubCommand}
@@ -141,21 +141,30 @@ pub names_by_parse : (app : App) (words : List Text) (m : ArgMatches) (task : Ta
     → MakesSome (subcommand_rows_of m) task → NamesTask words task
 names_by_parse app words m task is has makes = by_parse (λ found. MakesSome found task) app words m is has makes
 
--- what a request that was made asks for
-pub asked_so : (found : Option (Text × List Row)) (words : List Text) (r : Result Request Error) → ((task : Task) → MakesSome found task → AskFor words task)
-    → IfOk r (λ request. MakesSome found (task_of request)) → IfOk r (λ request. AskFor words (task_of request))
-asked_so found words (Ok request) so makes = so (task_of request) makes
-asked_so found words (Err e) so makes = makes
+-- what a request asks for that names no file twice
+pub asked_apart : (words : List Text) (task : Task) (r : Result Request Error) → NamesTask words task → fault_of command_line words ≡ []
+    → IfOk r (λ other. task_of other ≡ task) → OnOk r (names_twice task ≡ false) → IfOk r (λ request. AskFor words (task_of request))
+asked_apart words task (Ok request) named none same apart =
+    subst (λ (t : Task). AskFor words t) (sym same) (record { named = named; faultless = none; apart = apart })
+asked_apart words task (Err e) named none same apart = same
+
+-- and why one is refused that does
+pub refused_apart : (words : List Text) (task : Task) (r : Result Request Error) → NamesTask words task
+    → IfErr r (λ e. (kind_of e ≡ OutOfMemory) ⊎ ((kind_of e ≡ ArgumentConflict) × (names_twice task ≡ true)))
+    → IfErr r (λ e. (kind_of e ≡ OutOfMemory) ⊎ IsRefusedBy words (kind_of e))
+refused_apart words task (Ok request) named fault = fault
+refused_apart words task (Err e) named (inl memory) = inl memory
+refused_apart words task (Err e) named (inr twice) = inr (inr (twice.0, (task, named, twice.1)))
 
 -- why a parse fails
 pub fails_by_words : {T : Type 0} (app : App) (words : List Text) (r : Result T Error) (e : Error) → app ≡ command_line → r ≡ Err e
     → (is_simple_and_free app ≡ true → FailsBy (fault_of app words) r)
-    → (kind_of e ≡ OutOfMemory) ⊎ IsAmong (kind_of e) (fault_of command_line words)
+    → (kind_of e ≡ OutOfMemory) ⊎ IsRefusedBy words (kind_of e)
 fails_by_words app words r e is failed fails =
     let all = subst (λ x. FailsBy (fault_of app words) x) failed (fails (ap is_simple_and_free is ∙ is_free_line)) in
     elim all [
       | inl memory ↦ inl memory
-      | inr among ↦ inr (subst (λ (a : App). IsAmong (kind_of e) (fault_of a words)) is among)
+      | inr among ↦ inr (inl (subst (λ (a : App). IsAmong (kind_of e) (fault_of a words)) is among))
     ]
 
 -- a parse that succeeds meets no fault

@@ -11,7 +11,7 @@ use Rattle.clap.specs.Lexer.{long_of, long_of_rest, short_of, short_of_rest, str
 use Rattle.clap.specs.Faults.{bundle_fault, check_fault, defaults_fault, flag_word_fault, other_fault, settle_fault, step_fault, turn_fault, walk_fault, word_fault}
 use Rattle.clap.specs.Walk.{Held, Step, Waiting, Walk, after_step, finished, idle, long_or_other, option, plain_word, positional, settled, short_or_plain, subcommand_met, subcommand_or_other, trailing, walked, walked_from, word_met}
 use Rattle.clap.specs.declared.error.kind.ErrorKind.TheVariants.{UnknownArgument}
-use Rattle.command_line.specs.Requests.{AskFor, HasValues, Makes, Task, command_of}
+use Rattle.command_line.specs.Requests.{AskFor, HasValues, Makes, Task, command_of, names_twice}
 use Rattle.command_line.specs.UsualWords.{IsFree, begins_with_hyphen}
 use Rattle.command_line.proofs.CommandNames.{IsAskable, faultless_by, made, names_by, shape_of, start}
 use Rattle.command_line.proofs.ReadTasks.{is_read, read}
@@ -185,8 +185,9 @@ open_if false faults e = absurd (cc)
 
 -- parts without a fault, that make a task, ask for it
 pub asks_by : {w name : Text} {task : Task} (parts : List Part) → IsAskable name → parts_fault name parts ≡ []
-    → name ≡ command_of task → HasValues (finished (shape_of name).rules (end_of name parts).held) task → AskFor (w ∷ name ∷ words_of parts) task
-asks_by {w = w} {name = name} {task = task} parts ask none command values =
+    → name ≡ command_of task → names_twice task ≡ false → HasValues (finished (shape_of name).rules (end_of name parts).held) task
+    → AskFor (w ∷ name ∷ words_of parts) task
+asks_by {w = w} {name = name} {task = task} parts ask none command apart values =
     let s = shape_of name in
     let passed = open_if (is_open s.rules start parts) (or_else (faults_from s start parts) (end_fault s (end_of name parts))) none in
     let walk = parts_walk s.rules start parts passed.0 in
@@ -195,6 +196,7 @@ asks_by {w = w} {name = name} {task = task} parts ask none command values =
           (subst (λ (x : Walk). Makes name (finished s.rules x.held) task) (sym walk) (record { command = command; values = values }));
       faultless = faultless_by w name (words_of parts) ask
           (ap₂ (λ (k : Kinds) (x : Walk). or_else k (end_fault s x)) (parts_faults s start parts passed.0) walk ∙ passed.1);
+      apart = apart;
     }
 
 -- what parts ask for is what is read of their walk's end

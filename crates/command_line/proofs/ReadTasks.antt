@@ -1,11 +1,12 @@
 -- The task that a command's name and its matches make is one.
-use Rattle.std.proofs.Common.{◌≡◌, ◌∙◌, ap, ap₂, sym, ℕ, Bool, true, false, List, [], ◌∷◌, Some, None, Option, codes}
+use Rattle.std.proofs.Common.{◌≡◌, ◌∙◌, inl, inr, ap, ap₂, subst, sym, ℕ, Bool, true, false, List, [], ◌∷◌, Some, None, Option, codes}
 use Rattle.std.specs.Prelude.{if◌then◌else◌, unwrap_or}
 use Rattle.std.specs.Str.{bytes_eq}
-use Rattle.clap.specs.Words.{Row, Text, first_of, one_of, subcommand_of}
+use Rattle.clap.specs.Words.{IsAmong, Kinds, Row, Text, first_of, one_of, subcommand_of}
+use Rattle.clap.specs.declared.error.kind.ErrorKind.{ErrorKind}
 use Rattle.clap.proofs.OnLiterals.{clap_on_literals}
 use Rattle.command_line.specs.CommandLine.{command_line}
-use Rattle.command_line.specs.Requests.{Makes, MakesSome, OneTaskIsAsked, Reads, Task, form_in, further_in, is_beside_ranks, is_beside_each, is_beside_several, is_each, is_several, is_spmd_asked, is_true, spelled_number, programs_in, settings_in, to_check, to_decide, to_decide_each, to_decide_phases, to_decide_unrolled, to_encode, to_explain, to_explain_each, to_explain_unrolled, to_export, to_join, to_phases, to_prove, to_replay, to_shrink, to_trim, to_unroll}
+use Rattle.command_line.specs.Requests.{AskFor, IsRefusedBy, Makes, MakesSome, NamesTask, OneTaskIsAsked, Reads, Task, names_twice, form_in, further_in, is_beside_ranks, is_beside_each, is_beside_several, is_each, is_several, is_spmd_asked, is_true, spelled_number, programs_in, settings_in, to_check, to_decide, to_decide_each, to_decide_phases, to_decide_unrolled, to_encode, to_explain, to_explain_each, to_explain_unrolled, to_export, to_join, to_phases, to_prove, to_replay, to_shrink, to_trim, to_unroll}
 
 abbrev text_in : Option Text → Text
 text_in o = unwrap_or o []
@@ -163,5 +164,18 @@ same : (found : Option (Text × List Row)) (one other : Task) → MakesSome foun
 same None one other first second = absurd first
 same (Some f) one other first second = is_read f.0 f.1 one first ∙ sym (is_read f.0 f.1 other second)
 
+-- what words name is one
+pub one_task_is_named : (words : List Text) (one other : Task) → NamesTask words one → NamesTask words other → one ≡ other
+one_task_is_named words one other first second = same (subcommand_of command_line words) one other first second
+
 pub one_task_is_asked : OneTaskIsAsked
-one_task_is_asked words one other first second = same (subcommand_of command_line words) one other first.named second.named
+one_task_is_asked words one other first second = one_task_is_named words one other first.named second.named
+
+twice_apart : (task other : Task) → other ≡ task → names_twice task ≡ false → names_twice other ≡ true → ⊥
+twice_apart task other same apart twice = let e : true ≡ false = sym twice ∙ ap names_twice same ∙ apart in cc
+
+-- words that ask for something aren't refused
+pub asked_unrefused : (words : List Text) (task : Task) (kind : ErrorKind) → AskFor words task → IsRefusedBy words kind → ⊥
+asked_unrefused words task kind asks (inl among) = subst (λ (k : Kinds). IsAmong kind k) asks.faultless among
+asked_unrefused words task kind asks (inr (is, (other, named, twice))) =
+    twice_apart task other (one_task_is_named words other task named asks.named) asks.apart twice

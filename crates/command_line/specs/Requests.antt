@@ -1,9 +1,12 @@
 -- What the words of a command line ask for.
-use Rattle.std.specs.Prelude.{◌≡◌, ◌||◌, ◌∷◌, ℕ, [], Bool, if◌then◌else◌, false, true, is_some, not, Some, None, Option, map, option_map, codes, List, slice_get}
+use Rattle.std.specs.Prelude.{◌≡◌, ◌⊎◌, ◌||◌, ◌∷◌, ℕ, [], Bool, if◌then◌else◌, false, true, is_some, not, Some, None, Option, map, option_map, codes, List, slice_get}
 use Rattle.std.specs.Borrow.{Bor}
+use Rattle.std.specs.List.{list_any}
 use Rattle.std.specs.Str.{bytes_eq}
 use Rattle.std.specs.Str.Parse.{IsNumeral, digits_value, without_leading_plus}
-use Rattle.clap.specs.Words.{Row, Text, all_of, fault_of, first_of, one_of, subcommand_of}
+use Rattle.clap.specs.Words.{IsAmong, Row, Text, all_of, fault_of, first_of, one_of, subcommand_of}
+use Rattle.clap.specs.declared.error.kind.ErrorKind.{ErrorKind}
+use Rattle.clap.specs.declared.error.kind.ErrorKind.TheVariants.{ArgumentConflict}
 use Rattle.options.specs.declared.form.Form.{Form}
 use Rattle.options.specs.declared.form.Form.TheVariants.{Brief, Whole, Graph, Chart, Picture, Page, Object, Messages}
 use Rattle.command_line.specs.CommandLine.{command_line}
@@ -269,6 +272,28 @@ abbrev pub MakesSome : Option (Text × List Row) → Task → Type 0
 MakesSome None task = ⊥
 MakesSome (Some found) task = Makes found.0 found.1 task
 
+-- ---- files that are named twice
+
+-- a file that is named, and the same text
+abbrev pub is_file : Option Text → Text → Bool
+is_file None text = false
+is_file (Some file) text = bytes_eq file text
+
+-- both files are named, and by the same text
+abbrev pub are_one_file : Option Text → Option Text → Bool
+are_one_file file None = false
+are_one_file file (Some other) = is_file file other
+
+-- A task names a file twice by the same text, so that the one content would replace the other: a
+-- map that is written is named as the program or as what is written beside it, or a report as one
+-- of the programs.
+abbrev pub names_twice : Task → Bool
+names_twice (to_shrink program out map) = is_file map program || are_one_file map out
+names_twice (to_unroll program ranks settings collectives out map) = is_file map program || are_one_file map out
+names_twice (to_decide_each programs junit beside json) = list_any (λ program. is_file junit program) programs
+names_twice (to_explain_each programs junit workers depth budget form beside) = list_any (λ program. is_file junit program) programs
+names_twice _ = false
+
 -- ---- what the words ask for
 
 -- the words name the task's command, and the values after it are the task's, as the command line
@@ -276,10 +301,17 @@ MakesSome (Some found) task = Makes found.0 found.1 task
 abbrev pub NamesTask : List Text → Task → Type 0
 NamesTask words task = MakesSome (subcommand_of command_line words) task
 
--- and they have no fault
+-- and they have no fault, nor name a file twice
 pub record AskFor (words : List Text) (task : Task) : Type 0 where
   pub named : NamesTask words task
   pub faultless : fault_of command_line words ≡ []
+  pub apart : names_twice task ≡ false
+
+-- words are refused as a fault of usage, or are a question, by this kind of error: of their own
+-- faults or questions, or for a file that is named twice
+abbrev pub IsRefusedBy : List Text → ErrorKind → Type 0
+IsRefusedBy words kind =
+    IsAmong kind (fault_of command_line words) ⊎ ((kind ≡ ArgumentConflict) × ((task : Task) × NamesTask words task × (names_twice task ≡ true)))
 
 -- what words ask for is one
 abbrev pub OneTaskIsAsked : Type 0

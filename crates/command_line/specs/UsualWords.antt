@@ -5,7 +5,7 @@ use Rattle.clap.specs.Words.{Text}
 use Rattle.options.specs.Ranges.{IsPieces}
 use Rattle.options.specs.declared.form.Form.{Form}
 use Rattle.options.specs.declared.form.Form.TheVariants.{Brief, Whole, Graph, Chart, Picture, Page, Object, Messages}
-use Rattle.command_line.specs.Requests.{AskFor, Task, spelled_number, to_check, to_decide, to_decide_each, to_decide_phases, to_decide_unrolled, to_encode, to_explain, to_explain_each, to_explain_unrolled, to_export, to_join, to_phases, to_prove, to_replay, to_shrink, to_trim, to_unroll}
+use Rattle.command_line.specs.Requests.{AskFor, Task, names_twice, spelled_number, to_check, to_decide, to_decide_each, to_decide_phases, to_decide_unrolled, to_encode, to_explain, to_explain_each, to_explain_unrolled, to_export, to_join, to_phases, to_prove, to_replay, to_shrink, to_trim, to_unroll}
 
 -- the text's first byte is a hyphen
 abbrev pub begins_with_hyphen : Text → Bool
@@ -65,7 +65,7 @@ pub data PlainForm : List Text → Task → Type 0 where
       → PlainForm (name ∷ codes "shrink" ∷ p ∷ []) (to_shrink p None None)
   shrink_out_form : (name p file : Text) → IsFree p → IsFree file
       → PlainForm (name ∷ codes "shrink" ∷ p ∷ codes "--out" ∷ file ∷ []) (to_shrink p (Some file) None)
-  shrink_map_form : (name p file map : Text) → IsFree p → IsFree file → IsFree map
+  shrink_map_form : (name p file map : Text) → IsFree p → IsFree file → IsFree map → names_twice (to_shrink p (Some file) (Some map)) ≡ false
       → PlainForm (name ∷ codes "shrink" ∷ p ∷ codes "--out" ∷ file ∷ codes "--map" ∷ map ∷ []) (to_shrink p (Some file) (Some map))
   decide_form : (name p : Text) → IsFree p
       → PlainForm (name ∷ codes "decide" ∷ p ∷ []) (to_decide p None false false)
@@ -85,7 +85,7 @@ pub data PlainForm : List Text → Task → Type 0 where
       → PlainForm (name ∷ codes "join" ∷ p ∷ folder ∷ codes "--out" ∷ file ∷ []) (to_join p folder (Some file) false)
   decide_both_form : (name p q : Text) → IsFree p → IsFree q
       → PlainForm (name ∷ codes "decide" ∷ p ∷ q ∷ []) (to_decide_each (p ∷ q ∷ []) None false false)
-  decide_junit_form : (name p file : Text) → IsFree p → IsFree file
+  decide_junit_form : (name p file : Text) → IsFree p → IsFree file → names_twice (to_decide_each (p ∷ []) (Some file) false false) ≡ false
       → PlainForm (name ∷ codes "decide" ∷ p ∷ codes "--junit" ∷ file ∷ []) (to_decide_each (p ∷ []) (Some file) false false)
   explain_each_form : (name p q : Text) → IsFree p → IsFree q
       → PlainForm (name ∷ codes "explain" ∷ p ∷ q ∷ codes "--each" ∷ []) (to_explain_each (p ∷ q ∷ []) None 4 4 1000000 Brief false)
@@ -115,7 +115,7 @@ pub data PlainForm : List Text → Task → Type 0 where
       (to_unroll p 4 (one ∷ other ∷ []) None None None)
   unroll_collectives_form : (name p way : Text) → IsFree p → IsFree way
       → PlainForm (name ∷ codes "unroll" ∷ p ∷ codes "--ranks" ∷ codes "4" ∷ codes "--collectives" ∷ way ∷ []) (to_unroll p 4 [] (Some way) None None)
-  unroll_map_form : (name p file map : Text) → IsFree p → IsFree file → IsFree map
+  unroll_map_form : (name p file map : Text) → IsFree p → IsFree file → IsFree map → names_twice (to_unroll p 4 [] None (Some file) (Some map)) ≡ false
       → PlainForm (name ∷ codes "unroll" ∷ p ∷ codes "--ranks" ∷ codes "4" ∷ codes "--out" ∷ file ∷ codes "--map" ∷ map ∷ [])
       (to_unroll p 4 [] None (Some file) (Some map))
 

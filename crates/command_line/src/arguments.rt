@@ -394,7 +394,7 @@ pub fn workers<'a>(alloc: Global) -> Arg<'a>
     number(alloc, WORKERS, value_parser!(u32).range(1..=64))
         .default_value("4")
         .help(
-            "How many threads search at once, 1 to 64; with more than one the evidence differs from run to run",
+            "How many threads search at once, 1 to 64; with more than one the evidence may differ from run to run",
         )
 }
 
@@ -412,7 +412,7 @@ pub fn budget<'a>(alloc: Global) -> Arg<'a>
     number(alloc, BUDGET, value_parser!(u32).range(0..=1_000_000_000))
         .default_value("1000000")
         .help(
-            "How many conflicts each thread may count, 0 to 1000000000; with 0 no run is tried and nothing is searched",
+            "How many conflicts each thread may count, 0 to 1000000000; with 0 nothing is searched",
         )
 }
 

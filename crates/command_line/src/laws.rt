@@ -14,8 +14,8 @@ pub fn command_is_second()
 
 /// In their usual order the words of a command ask for it, with the files' names and the options
 /// that they look like: `--json`, `--progress`, `--out`, `--pieces`, `--lines`, `--dimacs`,
-/// `--map`, `--each`, `--junit`, and the form of an explanation. They have no fault: where they
-/// aren't read memory ran out. By `one_task_is_asked` they ask for nothing else.
+/// `--map`, `--each`, `--junit`, and the form of an explanation. Where a file isn't named twice,
+/// they have no fault: where they aren't read memory ran out. By `one_task_is_asked` they ask for nothing else.
 pub fn plain_words_are_read()
     ensures { PlainWordsAreRead }
 {}

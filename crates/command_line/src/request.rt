@@ -1,9 +1,10 @@
 //! What the words of a command line ask for.
 
-ghost use Rattle.std.specs.Prelude.{◌≡◌, ◌⊎◌, ◌||◌, ◌∷◌, IfErr, IfOk, IfSome, List, codes, false, is_some, map, string_bytes, true, Some};
-ghost use Rattle.clap.specs.Words.{IsAmong, Row, all_of, fault_of, first_of, found_of, kind_of, one_of, rows_of, subcommand_of, subcommand_rows_of};
+ghost use Rattle.std.specs.Prelude.{◌≡◌, ◌⊎◌, ◌||◌, ◌∷◌, IfErr, IfOk, IfSome, OnOk, List, codes, false, is_some, map, string_bytes, true, Some};
+ghost use Rattle.std.specs.List.{list_any};
+ghost use Rattle.clap.specs.Words.{Row, all_of, first_of, found_of, kind_of, one_of, rows_of, subcommand_of, subcommand_rows_of};
 ghost use Rattle.command_line.specs.CommandLine.{command_line};
-ghost use Rattle.command_line.specs.Requests.{AskFor, Flags, Makes, MakesSome, Gives, IsColor, Reads, form_in, has_two, is_beside_each, is_beside_ranks, is_beside_several, is_each, is_for_one, is_of_several, is_several, is_spmd_asked, is_true, path_of, settings_in, task_of, texts_in};
+ghost use Rattle.command_line.specs.Requests.{AskFor, Flags, Makes, MakesSome, Gives, IsColor, IsRefusedBy, Reads, are_one_file, form_in, has_two, is_beside_each, is_beside_ranks, is_beside_several, is_each, is_file, is_for_one, is_of_several, is_several, is_spmd_asked, is_true, names_twice, path_of, settings_in, task_of, texts_in};
 
 use crate::arguments::{
     ALL, BUDGET, CHART, COLLECTIVES, COLOR, DEPTH, DIMACS, DOT, EACH, EVIDENCE, FOLDER, HTML, JSON,
@@ -11,7 +12,7 @@ use crate::arguments::{
 };
 use crate::commands::command;
 use clap::error::ErrorKind;
-use clap::{ArgMatches, Error};
+use clap::{ArgMatches, Command, Error};
 use options::{Form, Options, Pieces};
 use std::alloc::{AllocError, Global};
 use std::mem;
@@ -211,16 +212,112 @@ pub enum Request<'a> {
 }
 
 /// What the words ask for. The first word is the program's own name. An error is a fault of usage,
-/// a question for help, or want of memory.
+/// also where two of the words name one file, of which one is written over the other; a question
+/// for help; or want of memory.
 pub fn request_of(alloc: Global, words: &[String]) -> Result<Request<'_>, Error>
     ensures asked { IfOk result (λ request. AskFor (map (λ w. string_bytes w) words.now) (task_of request)) }
     ensures faults { IfErr result (λ e. (kind_of e ≡ ErrorKind.OutOfMemory)
-        ⊎ IsAmong (kind_of e) (fault_of command_line (map (λ w. string_bytes w) words.now))) }
+        ⊎ IsRefusedBy (map (λ w. string_bytes w) words.now) (kind_of e)) }
 {
     let mut command = command(alloc)?;
     match command.try_get_matches_from_mut(words) {
         Err(fault) => Err(fault),
-        Ok(matches) => asked_by(alloc, &matches),
+        Ok(matches) => {
+            let request = asked_by(alloc, &matches)?;
+            apart(&mut command, request)
+        }
+    }
+}
+
+/// The request, or an error where it names a file twice.
+fn apart<'a>(command: &mut Command<'_>, request: Request<'a>) -> Result<Request<'a>, Error>
+    ensures same { IfOk result (λ other. task_of other ≡ task_of request.entry) }
+    ensures apart { OnOk result (names_twice (task_of request.entry) ≡ false) }
+    ensures fault { IfErr result (λ e. (kind_of e ≡ ErrorKind.OutOfMemory)
+        ⊎ ((kind_of e ≡ ErrorKind.ArgumentConflict) × (names_twice (task_of request.entry) ≡ true))) }
+{
+    match named_twice(&request) {
+        None => Ok(request),
+        Some(told) => match command.error(ErrorKind::ArgumentConflict, told) {
+            Ok(error) => Err(error),
+            Err(AllocError) => Err(Error::from(AllocError)),
+        },
+    }
+}
+
+/// Which words name one file, where that is a fault, as it is told.
+fn named_twice(request: &Request<'_>) -> Option<&'static str>
+    ensures { is_some result ≡ names_twice (task_of request.now) }
+{
+    match request {
+        Request::Shrink(asked) => map_named_twice(asked.program, asked.out, asked.map),
+        Request::Unroll(asked) => map_named_twice(asked.program, asked.out, asked.map),
+        Request::DecideEach(asked) => report_named_twice(&asked.programs, asked.junit),
+        Request::ExplainEach(asked) => report_named_twice(&asked.programs, asked.junit),
+        Request::Prove(_)
+        | Request::Check(_)
+        | Request::Replay(_)
+        | Request::Encode(_)
+        | Request::Explain(_)
+        | Request::Export(_)
+        | Request::Trim(_)
+        | Request::Decide(_)
+        | Request::DecidePhases(_)
+        | Request::Phases(_)
+        | Request::Join(_)
+        | Request::DecideUnrolled(_)
+        | Request::ExplainUnrolled(_) => None,
+    }
+}
+
+/// The same of a map that is written.
+fn map_named_twice(program: &str, out: Option<&str>, map: Option<&str>) -> Option<&'static str>
+    ensures { is_some result ≡ is_file (path_of map.entry) program.now || are_one_file (path_of map.entry) (path_of out.entry) }
+{
+    if is_file(map, program) {
+        return Some("--map and PROGRAM name one file");
+    }
+    if are_one_file(map, out) {
+        return Some("--map and --out name one file");
+    }
+    None
+}
+
+/// The same of a report.
+fn report_named_twice(programs: &[&str], junit: Option<&str>) -> Option<&'static str>
+    ensures { is_some result ≡ list_any (λ program. is_file (path_of junit.entry) program) (map (λ p. p.now) programs.now) }
+{
+    if is_one_named(programs, junit) {
+        Some("--junit and PROGRAM name one file")
+    } else {
+        None
+    }
+}
+
+/// Whether one of these is the file that is named.
+fn is_one_named(programs: &[&str], file: Option<&str>) -> bool
+    ensures { result ≡ list_any (λ program. is_file (path_of file.entry) program.now) programs.now }
+{
+    programs.iter().any(|program| is_file(file, program))
+}
+
+/// Whether both files are named, and by the same text.
+fn are_one_file(file: Option<&str>, other: Option<&str>) -> bool
+    ensures { result ≡ are_one_file (path_of file.entry) (path_of other.entry) }
+{
+    match other {
+        None => false,
+        Some(text) => is_file(file, text),
+    }
+}
+
+/// Whether a file is named, and by this text.
+fn is_file(file: Option<&str>, text: &str) -> bool
+    ensures { result ≡ is_file (path_of file.entry) text.now }
+{
+    match file {
+        None => false,
+        Some(path) => path == text,
     }
 }
 

@@ -8,6 +8,19 @@ use std::alloc::AllocError;
 use std::io;
 use thiserror::Error;
 
+/// What a refusal of this kind means, in words; empty where there are none for it.
+pub(crate) fn meaning_of(kind: io::ErrorKind) -> &'static str {
+    match kind {
+        io::ErrorKind::NotFound => "no such file or folder",
+        io::ErrorKind::PermissionDenied => "its rights don't allow it",
+        io::ErrorKind::IsADirectory => "it is a folder",
+        io::ErrorKind::NotADirectory => "a part of its path is no folder",
+        io::ErrorKind::ReadOnlyFilesystem => "its file system takes no change",
+        io::ErrorKind::StorageFull | io::ErrorKind::QuotaExceeded => "the disk is full",
+        _ => "",
+    }
+}
+
 /// Why a file can't be opened.
 #[derive(Clone, Copy, Debug, PartialEq, Eq, Error)]
 pub enum OpenFault {

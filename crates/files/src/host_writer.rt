@@ -1,6 +1,8 @@
 //! A file of the system that is being written.
 use crate::StoreFault;
+use crate::fault::meaning_of;
 use std::alloc::{AllocError, Global};
+use std::cell::Cell;
 use std::fs::{File, Files, Metadata, OpenFile, OpenOptions};
 use std::io::{ErrorKind, Write};
 use std::os::unix::fs::MetadataExt;
@@ -18,6 +20,8 @@ pub struct HostWriter<'a, R: Files> {
     file: R::File,
     /// The path of the new file.
     beside: Option<String>,
+    /// Where it is noted why the system refuses to write.
+    why: &'a Cell<&'static str>,
 }
 
 impl<'a, R: Files> HostWriter<'a, R> {
@@ -26,18 +30,23 @@ impl<'a, R: Files> HostWriter<'a, R> {
     /// A new file beside it is written where nothing stands at the path, or a regular file with one
     /// name whose owner and mode the new one can have. Devices, pipes and links are written
     /// themselves, and so is a file in a folder that takes no other.
-    pub(crate) fn open(rt: &'a R, alloc: Global, path: &str) -> io::Result<HostWriter<'a, R>> {
+    pub(crate) fn open(
+        rt: &'a R,
+        alloc: Global,
+        path: &str,
+        why: &'a Cell<&'static str>,
+    ) -> io::Result<HostWriter<'a, R>> {
         match fs::symlink_metadata(rt, path) {
             Ok(old) => {
                 if old.is_file() && old.nlink() == 1 {
                     OpenOptions::new().write(true).open(rt, path)?;
-                    if let Some(writer) = HostWriter::replacing(rt, alloc, path, &old) {
+                    if let Some(writer) = HostWriter::replacing(rt, alloc, path, &old, why) {
                         return Ok(writer);
                     }
                 }
             }
             Err(error) if error.kind() == ErrorKind::NotFound => {
-                if let Ok(Some(writer)) = HostWriter::beside(rt, alloc, path) {
+                if let Ok(Some(writer)) = HostWriter::beside(rt, alloc, path, why) {
                     return Ok(writer);
                 }
             }
@@ -47,6 +56,7 @@ impl<'a, R: Files> HostWriter<'a, R> {
             rt,
             file: fs::create(rt, path)?,
             beside: None,
+            why,
         })
     }
 
@@ -56,8 +66,9 @@ impl<'a, R: Files> HostWriter<'a, R> {
         alloc: Global,
         path: &str,
         old: &Metadata,
+        why: &'a Cell<&'static str>,
     ) -> Option<HostWriter<'a, R>> {
-        let writer = HostWriter::beside(rt, alloc, path).ok()??;
+        let writer = HostWriter::beside(rt, alloc, path, why).ok()??;
         let new = writer.file.metadata().ok()?;
         if new.uid() != old.uid() || new.gid() != old.gid() {
             return None;
@@ -71,6 +82,7 @@ impl<'a, R: Files> HostWriter<'a, R> {
         rt: &'a R,
         alloc: Global,
         path: &str,
+        why: &'a Cell<&'static str>,
     ) -> Result<Option<HostWriter<'a, R>>, AllocError> {
         for number in 0..NAMES {
             let name = format!(in alloc; "{path}.{number}.part")?;
@@ -80,6 +92,7 @@ impl<'a, R: Files> HostWriter<'a, R> {
                         rt,
                         file,
                         beside: Some(name),
+                        why,
                     }));
                 }
                 Err(error) if error.kind() == ErrorKind::AlreadyExists => {}
@@ -95,21 +108,33 @@ impl<'a, R: Files> HostWriter<'a, R> {
             Ok(()) => {}
             // A pipe or a terminal has no disk that could refuse.
             Err(error) if error.kind() == ErrorKind::InvalidInput => {}
-            Err(_) => return Err(StoreFault::Device),
+            Err(error) => return Err(self.refused(&error)),
         }
         if let Some(name) = &self.beside {
-            if fs::rename(self.rt, name.as_str(), path).is_err() {
-                return Err(StoreFault::Device);
+            if let Err(error) = fs::rename(self.rt, name.as_str(), path) {
+                return Err(self.refused(&error));
             }
         }
         self.beside = None;
         Ok(())
     }
+
+    /// Notes why the system refused.
+    fn refused(&self, error: &io::Error) -> StoreFault {
+        self.why.set(meaning_of(error.kind()));
+        StoreFault::Device
+    }
 }
 
 impl<R: Files> Write for HostWriter<'_, R> {
     fn write(&mut self, buf: &[u8]) -> io::Result<usize> {
-        self.file.write(buf)
+        match self.file.write(buf) {
+            Ok(count) => Ok(count),
+            Err(error) => {
+                self.why.set(meaning_of(error.kind()));
+                Err(error)
+            }
+        }
     }
 
     fn flush(&mut self) -> io::Result<()> {
@@ -123,6 +148,7 @@ impl<R: Files> Drop for HostWriter<'_, R> {
             rt,
             file: _,
             beside,
+            why: _,
         } = self;
         if let Some(name) = beside {
             // The fault that ended the writing is told already; a file that can't be removed stays.

@@ -94,7 +94,7 @@ pub record AreTimelines (text : List ℕ) (source : ProgramText) (p : MpiProgram
 -- what is told in words, what is drawn, and the listing, one below another
 abbrev pub page_with : List ℕ → List ℕ → List ℕ → List ℕ
 page_with words drawn lines =
-    codes "<!DOCTYPE html>\n<html lang=\"en\">\n<head>\n<meta charset=\"utf-8\">\n<meta name=\"viewport\" content=\"width=device-width\">\n<title>mpiprove: deadlock</title>\n<style>\nbody { margin: 1.5em; font-family: \"DejaVu Sans\", Helvetica, sans-serif; }\npre { font-size: 13px; overflow-x: auto; }\n.timeline { overflow: auto; max-height: 90vh; border: 1px solid #ddd; }\nmark { background: #fbdada; }\n</style>\n</head>\n<body>\n<h1>Deadlock</h1>\n<pre>"
+    codes "<!DOCTYPE html>\n<html lang=\"en\">\n<head>\n<meta charset=\"utf-8\">\n<meta name=\"viewport\" content=\"width=device-width\">\n<title>mpiprove: deadlock</title>\n<style>\nbody { margin: 1.5em; font-family: \"DejaVu Sans\", Helvetica, sans-serif; }\npre { font-size: 13px; overflow-x: auto; }\n.timeline { overflow: auto; max-height: 90vh; border: 1px solid #ddd; }\n.timeline svg { overflow: visible; padding-right: 40em; }\nmark { background: #fbdada; }\n</style>\n</head>\n<body>\n<h1>Deadlock</h1>\n<pre>"
     ++ (flat_map escape words ++ (codes "</pre>\n<h2>Timeline</h2>\n<div class=\"timeline\">\n" ++ (drawn ++ (codes "</div>\n<h2>Program</h2>\n<pre>" ++ (lines ++ codes "</pre>\n</body>\n</html>\n")))))
 
 -- The page has these words, these timelines, and lines of the program's text, those marked that

@@ -17,7 +17,7 @@ use writing::put_text;
 
 /// What stands before the words.
 const HEAD: &str =
-    "<!DOCTYPE html>\n<html lang=\"en\">\n<head>\n<meta charset=\"utf-8\">\n<meta name=\"viewport\" content=\"width=device-width\">\n<title>mpiprove: deadlock</title>\n<style>\nbody { margin: 1.5em; font-family: \"DejaVu Sans\", Helvetica, sans-serif; }\npre { font-size: 13px; overflow-x: auto; }\n.timeline { overflow: auto; max-height: 90vh; border: 1px solid #ddd; }\nmark { background: #fbdada; }\n</style>\n</head>\n<body>\n<h1>Deadlock</h1>\n<pre>";
+    "<!DOCTYPE html>\n<html lang=\"en\">\n<head>\n<meta charset=\"utf-8\">\n<meta name=\"viewport\" content=\"width=device-width\">\n<title>mpiprove: deadlock</title>\n<style>\nbody { margin: 1.5em; font-family: \"DejaVu Sans\", Helvetica, sans-serif; }\npre { font-size: 13px; overflow-x: auto; }\n.timeline { overflow: auto; max-height: 90vh; border: 1px solid #ddd; }\n.timeline svg { overflow: visible; padding-right: 40em; }\nmark { background: #fbdada; }\n</style>\n</head>\n<body>\n<h1>Deadlock</h1>\n<pre>";
 
 /// Adds the timeline of a run that ends well to that of another one, where its steps are given.
 fn put_well_part(

@@ -4,3 +4,4 @@ pub mod Faults
 pub mod Pieces
 pub mod Mapping
 pub mod Reading
+pub mod Names

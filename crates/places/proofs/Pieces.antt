@@ -5,7 +5,7 @@ use Rattle.std.proofs.lemmas.List.{take_more}
 use Rattle.std.proofs.lemmas.List.Concat.{flat_map-append}
 use Rattle.options.specs.declared.form.Form.{Form}
 use Rattle.places.specs.Maps.{AreDigits}
-use Rattle.places.specs.Marks.{BeginsWithNoDigit, IsAround}
+use Rattle.places.specs.Marks.{BeginsWithNoDigit, IsFirstNaming}
 use Rattle.places.specs.Woven.{AreCut, IsNamedLine, IsPlaced, Piece, kept_of, marker, told_of}
 
 pub next_bytes : (f : ℕ → List ℕ) (bytes : List ℕ) (index : ℕ) → index < length bytes
@@ -36,8 +36,8 @@ cut_more form map (p ∷ pieces) piece rest (first, free, others) placed none = 
   cut_more form map pieces piece rest others placed none,
 )
 
--- the part that ends with the first marker of a text and the digits behind it
-pub placed_piece : (form : Form) (map text front digits behind rest named : List ℕ) → IsAround (marker form) text front behind → behind ≡ digits ++ rest
+-- the part that ends with the first marker of a text that names a line and the digits behind it
+pub placed_piece : (form : Form) (map text front digits behind rest named : List ℕ) → IsFirstNaming (marker form) text front behind → behind ≡ digits ++ rest
     → AreDigits digits → IsNamedLine form map digits named
     → (piece : Piece) × IsPlaced form map piece × (text ≡ piece.kept ++ rest) × (piece.told ≡ front ++ named)
 placed_piece form map text front digits behind rest named at is are names = (
@@ -47,7 +47,12 @@ placed_piece form map text front digits behind rest named at is are names = (
     digits = digits;
     named = named;
     ends = refl;
-    first = λ a b ends. at.first a (b ++ rest) (text_is ∙ ap (λ (l : List ℕ). l ++ rest) ends ∙ append_assoc a (marker form ++ b) rest ∙ ap (λ (l : List ℕ). a ++ l) (append_assoc (marker form) b rest));
+    free = at.names.free;
+    first = λ a b names. at.first a (b ++ rest)
+        (record {
+          parts = text_is ∙ ap (λ (l : List ℕ). l ++ rest) names.parts ∙ append_assoc a (marker form ++ b) rest ∙ ap (λ (l : List ℕ). a ++ l) (append_assoc (marker form) b rest);
+          free = names.free;
+        });
     are = are;
     names = names;
     told_is = refl;
@@ -61,5 +66,5 @@ placed_piece form map text front digits behind rest named at is are names = (
 
     text_is : text ≡ kept ++ rest
     text_is =
-        at.parts ∙ ap (λ (l : List ℕ). front ++ (marker form ++ l)) is
+        at.names.parts ∙ ap (λ (l : List ℕ). front ++ (marker form ++ l)) is
         ∙ sym (append_assoc front (marker form ++ digits) rest ∙ ap (λ (l : List ℕ). front ++ l) (append_assoc (marker form) digits rest))

@@ -4,7 +4,7 @@ use Rattle.std.specs.List.{flat_map}
 use Rattle.options.specs.declared.form.Form.{Form}
 use Rattle.options.specs.declared.form.Form.TheVariants as forms
 use Rattle.places.specs.Maps.{AreDigits, HasEntry}
-use Rattle.places.specs.Marks.{BeginsWithNoDigit, IsAround, Lacks}
+use Rattle.places.specs.Marks.{BeginsWithNoDigit, EndsInName, IsAround, IsNaming, Lacks, NamesNone}
 use Rattle.places.specs.Sources.{source_of}
 
 -- what stands before the number of a line that is named
@@ -95,14 +95,15 @@ IsNamedIf false form map digits named = (added : List ℕ) × IsSaid form map di
 abbrev pub IsNamedLine : Form → List ℕ → List ℕ → List ℕ → Type 0
 IsNamedLine form = IsNamedIf (is_in_place form) form
 
--- the part ends with the first marker in it and the digits behind that, and in their place it is
--- told what names their line
+-- the part ends with the first marker in it that is no part of a name, and the digits behind that,
+-- and in their place it is told what names their line
 pub record IsPlaced (form : Form) (map : List ℕ) (piece : Piece) : Type 0 where
   pub front : List ℕ
   pub digits : List ℕ
   pub named : List ℕ
   pub ends : piece.kept ≡ front ++ (marker form ++ digits)
-  pub first : (a b : List ℕ) → piece.kept ≡ a ++ (marker form ++ b) → length front ≤ length a
+  pub free : EndsInName front → ⊥
+  pub first : (a b : List ℕ) → IsNaming (marker form) piece.kept a b → length front ≤ length a
   pub are : AreDigits digits
   pub names : IsNamedLine form map digits named
   pub told_is : piece.told ≡ front ++ named
@@ -124,7 +125,7 @@ pub record IsWoven (form : Form) (map plain told : List ℕ) : Type 0 where
   pub pieces : List Piece
   pub rest : List ℕ
   pub cut : AreCut form map pieces rest
-  pub last : Lacks (marker form) rest
+  pub last : NamesNone (marker form) rest
   pub plain_is : plain ≡ kept_of pieces ++ rest
   pub told_is : told ≡ told_of pieces ++ rest
 

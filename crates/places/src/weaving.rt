@@ -6,7 +6,7 @@ ghost use Rattle.places.specs.Maps.{AreFrom};
 ghost use Rattle.places.specs.Woven.{HasPlaces, IsAtSource, IsNamedLine, IsSaid, IsToldOfWords, IsWoven, closing, drawn_byte, is_in_place, marker, place_opening, place_text, plain_byte, quoted_byte, shown, source_text};
 
 use crate::map::Places;
-use crate::marks::{around, digits_of};
+use crate::marks::{around, digits_of, naming};
 use crate::sources::source_of;
 use options::Form;
 use std::alloc::{AllocError, Global};
@@ -221,7 +221,8 @@ fn put_named(
     }
 }
 
-/// A text with the places of the lines whose numbers stand behind the marker of this form.
+/// A text with the places of the lines whose numbers stand behind the marker of this form, where
+/// that is no part of a name.
 fn woven(
     alloc: Global,
     plain: &[u8],
@@ -232,7 +233,7 @@ fn woven(
 {
     let mut out = Vec::new(alloc);
     let mut rest = plain;
-    while let Some((front, behind)) = around(rest, marker(form)) {
+    while let Some((front, behind)) = naming(rest, marker(form)) {
         let (digits, behind) = digits_of(behind);
         out.extend_from_slice(front)?;
         put_named(&mut out, form, digits, places)?;
@@ -245,7 +246,9 @@ fn woven(
 /// A text that names lines, with their places beside them, in the form in which it was printed: in
 /// brackets behind each number of a line, without callers; in an object so in its strings, and as
 /// the member `place`, with callers, behind each member `line`. Each line that the map says
-/// something of gets its place, wherever its number stands behind the marker, and no other.
+/// something of gets its place, wherever its number stands behind the marker, and no other: the
+/// name `line` of a request or handle, as in `irecv line 4 1`, is no marker, and neither is the end
+/// of a longer one.
 ///
 /// In messages a place's source, its file and line, stands instead of the words `line N`: of the
 /// parts of what the map says, which blanks and commas part, the first that is a name without

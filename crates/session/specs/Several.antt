@@ -1,5 +1,5 @@
 -- The pages of `decide` and `explain` for several programs.
-use Rattle.std.specs.Prelude.{◌≡◌, ◌⊎◌, ◌==◌, ℕ, Bool, List, [], ◌∷◌, ◌++◌, codes, drop, if◌then◌else◌, Option, Some, Result}
+use Rattle.std.specs.Prelude.{◌≡◌, ◌⊎◌, ◌==◌, ℕ, Bool, List, [], ◌∷◌, ◌++◌, codes, drop, if◌then◌else◌, map, Option, Some, Result}
 use Rattle.std.specs.List.{Contains}
 use Rattle.serde_json.specs.Data.{string}
 use Rattle.serde_json.specs.Written.{compact_text}
@@ -15,6 +15,7 @@ use Rattle.junit.specs.declared.report.TestOutcome.TheVariants.{Passed, Failed, 
 use Rattle.session.specs.Explaining.{IsDecidedFirst}
 use Rattle.session.specs.Pages.{IsDecisionPage, IsUnreadFile, IsWritten}
 use Rattle.session.specs.declared.several.Answers.{Answers}
+use Rattle.shrinking.specs.Mapping.{shown_byte}
 use Rattle.session.specs.Sweeping.{Row, form_of_answer, gravest}
 
 -- ---- rows
@@ -30,10 +31,11 @@ abbrev pub parting : Form → List ℕ
 parting forms.Messages = codes ":\n"
 parting _ = codes ": "
 
--- a row: the path stands before its page, in a JSON object as the first member
+-- a row: the path stands before its page, in a JSON object as the first member, and else with a
+-- question mark for each byte that isn't printable ASCII
 abbrev pub file_row : Form → List ℕ → List ℕ → List ℕ
 file_row forms.Object path page = codes "{\"program\":" ++ (compact_text (string path) ++ (codes "," ++ drop 1 page))
-file_row form path page = codes "program " ++ (path ++ (parting form ++ page))
+file_row form path page = codes "program " ++ (map shown_byte path ++ (parting form ++ page))
 
 abbrev pub file_rows : Form → List (List ℕ) → List Row → List ℕ
 file_rows form (path ∷ paths) (row ∷ rows) = file_row form path row.page ++ file_rows form paths rows

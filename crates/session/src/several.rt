@@ -6,6 +6,7 @@ ghost use Rattle.session.specs.parts.Pages.{StopsBy};
 ghost use Rattle.session.specs.Pages.{ChangesAtMost, IsProgramFile, IsWritten};
 ghost use Rattle.junit.specs.Report.{Case, IsOf, report_text};
 ghost use Rattle.session.specs.Sweeping.{graver};
+ghost use Rattle.shrinking.specs.Mapping.{shown_byte};
 ghost use Rattle.session.specs.Several.{IsDecidedEach, IsDecidedIn, IsExplainedEach, IsFileOfEach, file_row, outcome_of};
 
 use crate::commands::{Stop, write};
@@ -20,6 +21,7 @@ use files::FileSet;
 use junit::{Report, TestOutcome};
 use options::Form;
 use prooflog::Text;
+use shrinking::shown;
 use std::alloc::{AllocError, Global};
 use std::sync::Wait;
 use std::thread::Threads;
@@ -45,9 +47,9 @@ fn put_file_row(
 {
     match form {
         Form::Object => put_object_row(text, alloc, path, page),
-        Form::Messages => put_text_row(text, path, ":\n", page),
+        Form::Messages => put_text_row(text, alloc, path, ":\n", page),
         Form::Brief | Form::Whole | Form::Graph | Form::Chart | Form::Picture | Form::Page => {
-            put_text_row(text, path, ": ", page)
+            put_text_row(text, alloc, path, ": ", page)
         }
     }
 }
@@ -68,10 +70,24 @@ fn put_object_row(
     text.extend_from_slice(behind_first(page))
 }
 
-/// Adds a row with this between the path and the page.
-fn put_text_row<'a>(
+/// Adds a row with this between the path as it can be shown and the page.
+fn put_text_row(
     text: &mut Vec<u8>,
-    path: &'a str,
+    alloc: Global,
+    path: &str,
+    parting: &str,
+    page: &[u8],
+) -> Result<(), AllocError>
+    ensures { OnOk result (text.new.items ≡ text.old.items ++ (codes "program " ++ (map shown_byte path.now ++ (parting.now ++ page.now)))) }
+{
+    let path = shown(alloc, path)?;
+    put_shown_row(text, &path, parting, page)
+}
+
+/// Adds a row with this between the path and the page.
+fn put_shown_row<'a>(
+    text: &mut Vec<u8>,
+    path: &'a [u8],
     parting: &'a str,
     page: &'a [u8],
 ) -> Result<(), AllocError>
@@ -81,7 +97,7 @@ fn put_text_row<'a>(
         text,
         &[
             Part::Text("program "),
-            Part::Text(path),
+            Part::Bytes(path),
             Part::Text(parting),
             Part::Bytes(page),
         ],

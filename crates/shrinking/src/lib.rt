@@ -26,5 +26,5 @@ mod units;
 pub use driving::{NotShrunk, Shrunk, shrink};
 pub use halving::{NotShrunkLong, shrink_long};
 pub use laws::{long_hangs_are_short, short_hangs_are_long};
-pub use mapping::left_map;
+pub use mapping::{left_map, shown};
 pub use telling::left_line;

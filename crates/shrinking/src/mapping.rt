@@ -31,8 +31,8 @@ fn is_call(words: &[&[u8]]) -> bool
     !is_other
 }
 
-/// A path that has no byte beside printable ASCII.
-fn shown(alloc: Global, path: &str) -> Result<Vec<u8>, AllocError>
+/// A path as it can be shown: with a question mark for each byte that isn't printable ASCII.
+pub fn shown(alloc: Global, path: &str) -> Result<Vec<u8>, AllocError>
     ensures { IfOk result (λ shown. shown.items ≡ map shown_byte path.now) }
 {
     path.as_bytes()

@@ -15,12 +15,12 @@ returns c =
     let cycle = c.args.cycle.now in
     let marks = c.args.marks.now in
     let ranks_are : c.ranks-ranks.result ≡ p.ranks = c.ranks-ranks.ensures.value in
-    seven_parts c.args.out.now.items (top c.args.well p.ranks cols.count) (undrawn_text c.args.before) (columns (rank_row p c.args.end.now calls cols.count at cycle) p.ranks) (flat_map (box_of p c.args.end.now calls cols.count) cols.steps.items) (flat_map (arrow_of p.ranks calls cols.count at marks) cols.steps.items) (columns (arc_at p.ranks cols.count cycle) (length cycle)) _
+    seven_parts c.args.out.now.items (top c.args.well p.ranks cols.count) (undrawn_text c.args.before) (columns (rank_row p c.args.end.now calls cols.count at cycle) p.ranks) (flat_map (box_of p c.args.end.now calls cols.count) cols.steps.items) (flat_map (arrow_of c.args.well p.ranks calls cols.count at marks) cols.steps.items) (columns (arc_at p.ranks cols.count cycle) (length cycle)) _
     c.put_top.new.out.items c.put_undrawn_text.new.out.items c.put_rows.new.out.items c.put_boxes.new.out.items c.put_arrows.new.out.items c.put_arcs.new.out.items c.put_text.new.out.items
     (c.in_ok-put_top.ensures ∙ ap (λ (ranks : ℕ). c.args.out.now.items ++ top c.args.well ranks cols.count) ranks_are)
     c.in_ok-put_undrawn_text.ensures
     c.in_ok-put_rows.ensures
     (c.in_ok-put_boxes.ensures ∙ ap (λ (steps : List PlacedAct). c.put_rows.new.out.items ++ flat_map (box_of p c.args.end.now calls cols.count) steps) c.deref.ensures.value)
-    (c.in_ok-put_arrows.ensures ∙ ap (λ (ranks : ℕ). c.put_boxes.new.out.items ++ flat_map (arrow_of ranks calls cols.count at marks) cols.steps.items) ranks_are)
+    (c.in_ok-put_arrows.ensures ∙ ap (λ (ranks : ℕ). c.put_boxes.new.out.items ++ flat_map (arrow_of c.args.well ranks calls cols.count at marks) cols.steps.items) ranks_are)
     (c.in_ok-put_arcs.ensures ∙ ap (λ (ranks : ℕ). c.put_arrows.new.out.items ++ columns (arc_at ranks cols.count cycle) (length cycle)) ranks_are)
     c.in_ok-put_text.ensures

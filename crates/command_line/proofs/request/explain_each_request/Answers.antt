@@ -1,7 +1,5 @@
-use Rattle.std.proofs.Common.{◌∙◌, ◌∷◌, ap, refl, sym, map, subst, ℕ, List, Result, Ok, codes}
-use Rattle.std.specs.Prelude.{IfOk}
+use Rattle.std.proofs.Common.{◌∙◌, ◌∷◌, ap, refl, map, ℕ, List}
 use Rattle.std.specs.Borrow.{Bor}
-use Rattle.clap.specs.Words.{found_of, rows_of}
 use Rattle.command_line.proofs.CommandLines.{given_by_rows, path_by_rows}
 use Rattle.command_line.proofs.request.explain_each_request.Goals as goal
 

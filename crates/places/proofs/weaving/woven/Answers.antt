@@ -1,6 +1,6 @@
 -- Part by part the text is woven.
 use Rattle.std.proofs.Common.{◌∙◌, ℕ, List, [], ◌∷◌, ◌++◌, ap, subst}
-use Rattle.places.specs.Marks.{IsAround, Lacks}
+use Rattle.places.specs.Marks.{IsFirstNaming, NamesNone}
 use Rattle.places.specs.Woven.{AreCut, kept_of, marker}
 use Rattle.places.proofs.Pieces.{cut_more, kept_more, placed_piece, told_more}
 use Rattle.places.proofs.weaving.woven.Goals as goal
@@ -15,7 +15,7 @@ loop-front-preserved c = λ map are.
     let behind = c.in-Some.behind.now in
     let digits = c.digits_of.result.0.now in
     let rest = c.digits_of.result.1.now in
-    let at : IsAround (marker form) text front behind = subst (λ (m : List ℕ). IsAround m text front behind) c.marker.ensures c.in-Some.ensures.some in
+    let at : IsFirstNaming (marker form) text front behind = subst (λ (m : List ℕ). IsFirstNaming m text front behind) c.marker.ensures c.in-Some.ensures.some in
     let (piece, placed, is, told) = placed_piece form map text front digits behind rest named at c.digits_of.ensures.parts c.digits_of.ensures.digits names in (
       pieces ++ piece ∷ [],
       cut_more form map pieces piece rest (subst (λ (l : List ℕ). AreCut form map pieces l) is cut) placed c.digits_of.ensures.all,
@@ -32,7 +32,7 @@ returns c = λ map are.
       pieces = pieces;
       rest = rest;
       cut = cut;
-      last = subst (λ (m : List ℕ). Lacks m rest) c.marker.ensures c.in_default.ensures.none;
+      last = subst (λ (m : List ℕ). NamesNone m rest) c.marker.ensures c.in_default.ensures.none;
       plain_is = plain;
       told_is = c.in_ok-extend_from_slice-2.ensures.items ∙ ap (λ (l : List ℕ). l ++ rest) out;
     }

@@ -1,21 +1,20 @@
 -- A run ends as the task that its words ask for, and an error that is explained is one of the
 -- faults of the words.
 use Rattle.std.proofs.Common.{◌≡◌, ◌⊎◌, refl, inl, inr, map, string_bytes, List}
-use Rattle.clap.specs.Words.{IsAmong, Text, fault_of, kind_of}
+use Rattle.clap.specs.Words.{Text, kind_of}
 use Rattle.clap.specs.declared.error.kind.ErrorKind.{ErrorKind}
 use Rattle.clap.specs.declared.error.kind.ErrorKind.TheVariants.{OutOfMemory}
-use Rattle.command_line.specs.CommandLine.{command_line}
-use Rattle.command_line.specs.Requests.{task_of}
+use Rattle.command_line.specs.Requests.{IsRefusedBy, task_of}
 use Rattle.session.specs.Endings.{EndsByError, ExplainsUsage, FailsEarly}
 use Rattle.session.specs.parts.Runs.{on_outputs}
 use Rattle.session.specs.Runs.{SessionRun}
 use Rattle.session.proofs.run.session.Goals as goal
 
-unasked : (words : List Text) (run : SessionRun) (kind : ErrorKind) → (kind ≡ OutOfMemory) ⊎ IsAmong kind (fault_of command_line words)
-    → EndsByError run kind → FailsEarly run ⊎ ((k : ErrorKind) × IsAmong k (fault_of command_line words) × ExplainsUsage run k)
+unasked : (words : List Text) (run : SessionRun) (kind : ErrorKind) → (kind ≡ OutOfMemory) ⊎ IsRefusedBy words kind
+    → EndsByError run kind → FailsEarly run ⊎ ((k : ErrorKind) × IsRefusedBy words k × ExplainsUsage run k)
 unasked words run kind fault (inl memory) = inl memory
 unasked words run kind (inl memory) (inr explained) = absurd (explained.0 memory)
-unasked words run kind (inr among) (inr explained) = inr (kind, among, explained.1)
+unasked words run kind (inr refused) (inr explained) = inr (kind, refused, explained.1)
 
 pub returns-in-Err : goal.returns-in-Err
 returns-in-Err g c =
