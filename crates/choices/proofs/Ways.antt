@@ -1,42 +1,20 @@
 -- What is known of several other ways.
-use Rattle.std.proofs.Common.{◌≡◌, ℕ, ◌+◌, ◌<◌, ◌≤◌, List, [], ◌∷◌, ◌++◌, length, get_or, take, Result, Ok, Err, IfOk, sym, ◌∙◌, ap, subst, arith}
-use Rattle.std.specs.declared.alloc.AllocError.{AllocError}
+use Rattle.std.proofs.Common.{◌≡◌, ℕ, ◌+◌, ◌<◌, ◌≤◌, List, [], ◌∷◌, ◌++◌, length, get_or, take, sym, ◌∙◌, ap, subst, arith}
 use Rattle.std.proofs.Math.Seq.{take-length}
 use Rattle.std.proofs.lemmas.List.{take_more}
 use Rattle.std.proofs.lemmas.List.Elements.{All-push}
 use Rattle.callorder.specs.Programs.{MpiProgram}
-use Rattle.callorder.specs.Resolving.{IsTextOf}
 use Rattle.choices.specs.declared.asking.Way.{Way}
-use Rattle.choices.specs.declared.asking.Way.TheVariants.{Hangs, Never, Open}
+use Rattle.choices.specs.declared.asking.Way.TheVariants.{Hangs, Never}
 use Rattle.narrowing.specs.declared.taken.ChoiceTaken.{ChoiceTaken}
-use Rattle.choices.specs.Pins.{IsPinned}
 use Rattle.choices.specs.declared.items.Choice.{Choice}
-use Rattle.choices.specs.declared.items.ChoiceNeed.{ChoiceNeed}
-use Rattle.choices.specs.declared.items.ChoiceNeed.TheVariants as needs
 use Rattle.choices.specs.declared.items.Weighed.{Weighed}
-use Rattle.choices.specs.parts.Weights.{AreOthers, IsWay, IsWayWith}
-use Rattle.choices.specs.Weights.{AreNever, AreWeighed, HangsOtherwise, HangsWith, IsChoiceOf, IsNarrowedText, IsWeighed, NeverWith}
+use Rattle.choices.specs.parts.Weights.{IsWayWith}
+use Rattle.choices.specs.Weights.{AreNever, AreWeighed, HangsOtherwise, IsWeighed, NeverWith}
 
 -- where a way is told to hang
 pub hangs_so : (text : List ℕ) (p : MpiProgram) (choice : Choice) (taken : ChoiceTaken) (way : Way) → way ≡ Hangs → IsWayWith text p choice taken way → HangsOtherwise p choice
 hangs_so text p choice taken way hangs known = subst (IsWayWith text p choice taken) hangs known
-
--- what is told of a pinned text is told of the way that it is pinned to
-pub way_told : (text pinned : List ℕ) (p : MpiProgram) (choice : Choice) (taken : ChoiceTaken) (r : Result Way AllocError) → IsPinned text choice.line taken pinned → IsNarrowedText p choice.call taken pinned
-    → IfOk r (IsWay pinned p choice) → IfOk r (IsWayWith text p choice taken)
-way_told text pinned p choice taken (Ok Hangs) is narrowed known = known
-way_told text pinned p choice taken (Ok Never) is narrowed known = record { pinned = pinned; is_pinned = is; is_narrowed = narrowed; never = known }
-way_told text pinned p choice taken (Ok Open) is narrowed known = tt
-way_told text pinned p choice taken (Err e) is narrowed known = known
-
--- what is told of the other ways is told of the choice
-pub weighed_by_others : (text : List ℕ) (p : MpiProgram) (choice : Choice) (r : Result ChoiceNeed AllocError) → IsTextOf text p → IsChoiceOf p choice → HangsWith text choice.line choice.taken
-    → IfOk r (AreOthers text p choice) → IfOk r (IsWeighed text choice)
-weighed_by_others text p choice (Ok needs.Known) is_text is_choice hangs others = (hangs, record { p = p; is_text = is_text; is_choice = is_choice; none = others })
-weighed_by_others text p choice (Ok needs.Tried) is_text is_choice hangs others = hangs
-weighed_by_others text p choice (Ok needs.No) is_text is_choice hangs others = (hangs, (p, is_text, others))
-weighed_by_others text p choice (Ok needs.NotAsked) is_text is_choice hangs others = tt
-weighed_by_others text p choice (Err e) is_text is_choice hangs others = others
 
 -- one more way never hangs
 pub never_more : (text : List ℕ) (p : MpiProgram) (choice : Choice) (read others : List ChoiceTaken) (i : ℕ) (d : ChoiceTaken) (way : Way) → i < length others → read ≡ others → way ≡ Never

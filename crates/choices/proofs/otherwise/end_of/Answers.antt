@@ -1,4 +1,4 @@
-use Rattle.std.proofs.Common.{ap, sym, ◌∙◌, subst, arith}
+use Rattle.std.proofs.Common.{ap, sym, ◌∙◌, arith}
 use Rattle.semantics.specs.Machine.{Configuration, is_buffered}
 use Rattle.semantics.proofs.Runs.{after_all_more}
 use Rattle.choices.proofs.Buffered.{buffered_now, opening_unbuffered}
