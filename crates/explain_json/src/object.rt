@@ -14,7 +14,7 @@ use serde::Serialize;
 use serde_json::{Error, to_string};
 use std::alloc::{AllocError, Global};
 use waits::{Fate, Standing, fate_of, fitting, misses_in, operation_of};
-use writing::put_characters;
+use writing::{Part as TextPart, put_characters, put_parts};
 
 /// A call as the program's text has it.
 #[derive(Drop, Serialize)]
@@ -371,7 +371,7 @@ fn parting_from(
 }
 
 /// What is told above the list of what decided a run.
-fn above(
+fn above_list(
     alloc: Global,
     scene: &Scene<'_>,
     steps: &[Step],
@@ -388,7 +388,7 @@ fn above(
 }
 
 /// What is told below it.
-fn below(
+fn below_list(
     alloc: Global,
     scene: &Scene<'_>,
     program: &LongProgram,
@@ -429,13 +429,19 @@ fn choice_front(alloc: Global, place: usize, choice: &ChoiceMade) -> Result<Vec<
 }
 
 /// Adds a choice to the list of what decided a run.
-fn put_decided(out: &mut Vec<u8>, front: &[u8], verdict: &str) -> Result<(), AllocError>
+fn put_decided<'a>(out: &mut Vec<u8>, front: &'a [u8], verdict: &'a str) -> Result<(), AllocError>
     ensures { OnOk result (out.new.items ≡ out.old.items ++ (front.now ++ verdict_member verdict.now)) }
 {
-    out.extend_from_slice(front)?;
-    out.extend_from_slice(b",\"verdict\":\"")?;
-    out.extend_from_slice(verdict.as_bytes())?;
-    out.extend_from_slice(b"\"}")
+    put_parts(
+        out,
+        &[
+            TextPart::Bytes(front),
+            TextPart::Text(",\"verdict\":\""),
+            TextPart::Text(verdict),
+            TextPart::Text("\"}"),
+        ],
+    )?;
+    Ok(())
 }
 
 /// The list of what decided a run, without its brackets.
@@ -462,16 +468,26 @@ fn head_of(alloc: Global, frequency: &Frequency) -> Result<Vec<u8>, AllocError>
 
 /// The object: its beginning, the members above the list of what decided the run, that list, and
 /// the members below it.
-fn joined(head: Vec<u8>, above: &[u8], decided: &[u8], below: &[u8]) -> Result<Vec<u8>, AllocError>
+fn joined<'a>(
+    head: Vec<u8>,
+    above: &'a [u8],
+    decided: &'a [u8],
+    below: &'a [u8],
+) -> Result<Vec<u8>, AllocError>
     ensures { IfOk result (λ text. IsJoined head.items above.now decided.now text.items) }
 {
     let mut text = head;
-    text.extend_from_slice(above)?;
-    text.extend_from_slice(b",\"decided\":[")?;
-    text.extend_from_slice(decided)?;
-    text.extend_from_slice(b"],")?;
-    text.extend_from_slice(below)?;
-    text.extend_from_slice(b"}\n")?;
+    put_parts(
+        &mut text,
+        &[
+            TextPart::Bytes(above),
+            TextPart::Text(",\"decided\":["),
+            TextPart::Bytes(decided),
+            TextPart::Text("],"),
+            TextPart::Bytes(below),
+            TextPart::Text("}\n"),
+        ],
+    )?;
     Ok(text)
 }
 
@@ -497,9 +513,9 @@ pub fn object_text(
     ensures { IfOk result (λ told. IsObject frequency.now (map (λ d. d.verdict.now) deciders.now.choices.items) told.items) }
 {
     let scene = scene_of(alloc, text, source, program, steps, true)?;
-    let above = above(alloc, &scene, steps, deciders)?;
+    let above = above_list(alloc, &scene, steps, deciders)?;
     let decided = decided_text(alloc, &deciders.choices)?;
-    let below = below(alloc, &scene, program, steps, frequency)?;
+    let below = below_list(alloc, &scene, program, steps, frequency)?;
     let head = head_of(alloc, frequency)?;
     joined(head, &above, &decided, &below)
 }
