@@ -142,7 +142,14 @@ fn words_of(
 {
     let decided = asked_text(alloc, text, asked)?;
     explanation(
-        alloc, text, source, program, steps, frequency, decided.as_str(), whole,
+        alloc,
+        text,
+        source,
+        program,
+        steps,
+        frequency,
+        decided.as_str(),
+        whole,
     )
 }
 
