@@ -1,4 +1,4 @@
-use Rattle.std.proofs.Common.{List, Option, ℕ, IfOk, sym, subst}
+use Rattle.std.proofs.Common.{List, Option, IfOk, sym, subst}
 use Rattle.std.specs.Prelude.{IfSome}
 use Rattle.semantics.specs.declared.state.Step.{Step}
 use Rattle.semantics.specs.RunEnds.{IsFinishedRun}

@@ -1,4 +1,4 @@
-use Rattle.std.proofs.Common.{List, ℕ, subst, sym}
+use Rattle.std.proofs.Common.{subst, sym}
 use Rattle.reports.specs.Asking.{TellsAsked}
 use Rattle.reports.proofs.Drawn.{words_say}
 use Rattle.reports.proofs.telling.words_of.Goals as goal
