@@ -1,3 +1,5 @@
+pub mod Buffered
+pub mod ChoiceLines
 pub mod Known
 pub mod Lines
 pub mod Replayed

@@ -1,3 +1,4 @@
 pub mod Pins
 pub mod Weights
+pub mod Words
 pub mod parts

@@ -1,6 +1,6 @@
 -- What is known of a choice.
-use Rattle.std.specs.Prelude.{◌≡◌, ℕ, List, [], Some, slice_get, All}
-use Rattle.callorder.specs.Programs.{MpiProgram}
+use Rattle.std.specs.Prelude.{◌≡◌, ℕ, List, [], IsTrue, All}
+use Rattle.callorder.specs.Programs.{MpiProgram, call_at, is_of_rank}
 use Rattle.callorder.specs.Resolving.{IsTextOf}
 use Rattle.semantics.specs.declared.state.Step.{Step}
 use Rattle.semantics.specs.Machine.{IsStuckRun, opening, after_all}
@@ -17,9 +17,10 @@ use Rattle.choices.specs.declared.items.ChoiceNeed.{ChoiceNeed}
 use Rattle.choices.specs.declared.items.ChoiceNeed.TheVariants as needs
 use Rattle.choices.specs.declared.items.Weighed.{Weighed}
 
--- The choice is one of the program: its call leaves it open, and its other ways are all that there
--- are.
+-- The choice is one of the program: its rank is that of its call, which leaves it open, and its
+-- other ways are all that there are.
 pub record IsChoiceOf (p : MpiProgram) (choice : Choice) : Type 0 where
+  pub rank : IsTrue (is_of_rank (call_at p choice.call) choice.rank)
   pub leaves : LeavesOpen p choice.call choice.taken
   pub ways : AreOtherWays p choice.call choice.taken choice.others.items
 
@@ -51,9 +52,11 @@ pub record NoneHangs (text : List ℕ) (p : MpiProgram) (choice : Choice) : Type
   pub some : choice.others.items ≡ [] → ⊥
   pub never : AreNever text p choice choice.others.items
 
--- in some of these ways a run ends stuck
-abbrev pub SomeHangs : List ℕ → ℕ → List ChoiceTaken → Type 0
-SomeHangs text number others = (place : ℕ) × (taken : ChoiceTaken) × (slice_get others place ≡ Some taken) × HangsWith text number taken
+-- a run of the program ends stuck in which this choice isn't made so
+pub record HangsOtherwise (p : MpiProgram) (choice : Choice) : Type 0 where
+  pub steps : List Step
+  pub stuck : IsStuckRun p steps
+  pub otherwise : IsTakenSo p (after_all (opening p) steps) choice.call choice.taken → ⊥
 
 -- The choice is one of the text's program, with all of its other ways, of which there are some, and
 -- in none of which a run ends stuck.
@@ -66,11 +69,11 @@ pub record IsKnownToBeNeeded (text : List ℕ) (choice : Choice) : Type 0 where
 -- Where a choice was asked about, the program of the text whose line says what the run did has a
 -- run that ends stuck. Where it is known to be needed, no run ends stuck where the line says any
 -- other way, and the other ways are all that there are. Where it is told not to be needed, some run
--- ends stuck where it says another way.
+-- of the text's own program ends stuck in which it isn't made so.
 abbrev pub IsWeighed : List ℕ → Choice → ChoiceNeed → Type 0
 IsWeighed text choice needs.Known = HangsWith text choice.line choice.taken × IsKnownToBeNeeded text choice
 IsWeighed text choice needs.Tried = HangsWith text choice.line choice.taken
-IsWeighed text choice needs.No = HangsWith text choice.line choice.taken × SomeHangs text choice.line choice.others.items
+IsWeighed text choice needs.No = HangsWith text choice.line choice.taken × ((p : MpiProgram) × IsTextOf text p × HangsOtherwise p choice)
 IsWeighed text choice needs.NotAsked = Unit {0}
 
 -- all that is told of these choices holds

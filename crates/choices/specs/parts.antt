@@ -1,2 +1,3 @@
 pub mod Pins
+pub mod Steps
 pub mod Weights

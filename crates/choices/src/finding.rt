@@ -1,6 +1,7 @@
 //! The choices of a run, with the lines that pin them.
 
-ghost use Rattle.std.specs.Prelude.{IfOk, OnOk};
+ghost use Rattle.std.specs.Prelude.{IfOk, IfSome, IsTrue, OnOk};
+ghost use Rattle.callorder.specs.Programs.{call_at, is_of_rank};
 ghost use Rattle.semantics.specs.Machine.{IsStuckRun};
 ghost use Rattle.narrowing.specs.Laws.{LeavesOpen};
 ghost use Rattle.choices.specs.parts.Weights.{AreChoicesOf};
@@ -25,17 +26,19 @@ fn choice_of(
     program: &LongProgram,
     line: usize,
     call: usize,
+    rank: u32,
     step: usize,
     taken: ChoiceTaken,
 ) -> Result<Choice, AllocError>
-    requires { LeavesOpen program.now call taken }
+    requires leaves { LeavesOpen program.now call taken }
+    requires rank { IsTrue (is_of_rank (call_at program.now call) rank) }
     ensures { IfOk result (IsChoiceOf program.now) }
 {
     let others = other_ways(alloc, program, call, taken)?;
     Ok(Choice {
         line,
         call,
-        rank: rank_of(program, call),
+        rank,
         step,
         taken,
         others,
@@ -84,10 +87,12 @@ fn open_message(program: &LongProgram, send: usize, finder: usize) -> Option<Ope
 }
 
 /// The rank of a call.
-fn rank_of(program: &LongProgram, call: usize) -> u32 {
+fn rank_of(program: &LongProgram, call: usize) -> Option<u32>
+    ensures { IfSome result (λ rank. IsTrue (is_of_rank (call_at program.now call) rank)) }
+{
     match program.call(call) {
-        None => 0,
-        Some(known) => known.rank,
+        None => None,
+        Some(known) => Some(known.rank),
     }
 }
 
@@ -109,12 +114,15 @@ fn put_send(
     let Some(line) = line_of_call(numbers, call) else {
         return Ok(());
     };
+    let Some(rank) = rank_of(program, call) else {
+        return Ok(());
+    };
     let taken = if buffered {
         ChoiceTaken::Buffered
     } else {
         ChoiceTaken::NotBuffered
     };
-    let choice = choice_of(alloc, program, line, call, step, taken)?;
+    let choice = choice_of(alloc, program, line, call, rank, step, taken)?;
     found.push(choice)?;
     Ok(())
 }
@@ -134,11 +142,14 @@ fn put_message(
     let Some(line) = line_of_call(numbers, finder) else {
         return Ok(());
     };
+    let Some(rank) = rank_of(program, finder) else {
+        return Ok(());
+    };
     let Some(ChoiceTaken::Message { source, tag }) = way_to(program, send) else {
         return Ok(());
     };
     let taken = ChoiceTaken::Message { source, tag };
-    let choice = choice_of(alloc, program, line, finder, step, taken)?;
+    let choice = choice_of(alloc, program, line, finder, rank, step, taken)?;
     if choice.others.is_empty() {
         return Ok(());
     }

@@ -28,10 +28,10 @@ pub enum ChoiceNeed {
     /// It does: each run of the program that ends stuck makes the choice so, since none does with
     /// the choice made in any other way.
     Known,
-    /// No run that ends stuck was found with the choice made in another way; not all other ways are
-    /// known to have none.
+    /// No run of the program that ends stuck was found in which the choice isn't made so; not all
+    /// other ways are known to have none.
     Tried,
-    /// Some run ends stuck with the choice made in another way.
+    /// Some run of the program ends stuck in which the choice isn't made so.
     No,
     /// It was not asked.
     NotAsked,

@@ -1,5 +1,8 @@
 //! What decided a run, as a text.
 
+ghost use Rattle.std.specs.Prelude.{◌≡◌, ◌++◌, IfOk, OnOk, string_bytes, take};
+ghost use Rattle.choices.specs.Words.{AreChoiceLines, TellsChoices, choice_line, need_words};
+
 use crate::items::{Choice, ChoiceNeed, Decided, HangExtent, Weighed};
 use crate::places::lines_of;
 use crate::wording::is_joined;
@@ -48,29 +51,56 @@ fn put_mode(out: &mut String, line: &[u8], mode: &str) -> Result<(), AllocError>
     out.push_str(mode)
 }
 
-/// What is told of a choice's other ways.
-fn need_text(need: ChoiceNeed) -> &'static str {
+/// What is said of a choice of which so much is known.
+pub fn need_words(need: ChoiceNeed) -> &'static str
+    ensures { result.now ≡ need_words need }
+{
     match need {
-        ChoiceNeed::Known => "; without it no run hangs (proved)",
-        ChoiceNeed::Tried => "; no run that hangs without it was found",
-        ChoiceNeed::No => "; may hang otherwise too",
-        ChoiceNeed::NotAsked => "; not asked whether it may hang otherwise",
+        ChoiceNeed::Known => "without it no run hangs (proved)",
+        ChoiceNeed::Tried => "no run that hangs without it was found",
+        ChoiceNeed::No => "may hang otherwise too",
+        ChoiceNeed::NotAsked => "not asked whether it may hang otherwise",
     }
 }
 
-/// Adds a line for each of the first choices.
-fn put_choices(out: &mut String, lines: &[&[u8]], choices: &[Weighed]) -> Result<(), AllocError> {
-    for weighed in choices.iter().take(MOST_TOLD) {
-        out.push_str("    ")?;
-        put_taken(out, lines, &weighed.choice)?;
-        out.push_str(need_text(weighed.need))?;
-        out.push('\n')?;
+/// What a run did, as the line on a choice tells it.
+fn taken_words(alloc: Global, lines: &[&[u8]], choice: &Choice) -> Result<String, AllocError> {
+    let mut out = String::new(alloc);
+    put_taken(&mut out, lines, choice)?;
+    Ok(out)
+}
+
+/// Adds the line on a choice.
+fn put_choice(out: &mut String, taken: &str, need: ChoiceNeed) -> Result<(), AllocError>
+    ensures { OnOk result (string_bytes out.new ≡ string_bytes out.old ++ choice_line taken.now need) }
+{
+    out.push_str("    ")?;
+    out.push_str(taken)?;
+    out.push_str("; ")?;
+    out.push_str(need_words(need))?;
+    out.push_str("\n")
+}
+
+/// The first choices, which are told.
+fn first_of(choices: &[Weighed]) -> &[Weighed]
+    ensures { result.now ≡ take 12 choices.now }
+{
+    if choices.len() <= MOST_TOLD {
+        return choices;
     }
-    if choices.len() > MOST_TOLD {
-        let more = choices.len() - MOST_TOLD;
-        write!(out, "    and {more} more\n")?;
+    &choices[..MOST_TOLD]
+}
+
+/// A line on each of these choices.
+fn choice_lines(alloc: Global, lines: &[&[u8]], choices: &[Weighed]) -> Result<String, AllocError>
+    ensures { IfOk result (λ told. AreChoiceLines choices.now (string_bytes told)) }
+{
+    let mut out = String::new(alloc);
+    for weighed in choices {
+        let taken = taken_words(alloc, lines, &weighed.choice)?;
+        put_choice(&mut out, taken.as_str(), weighed.need)?;
     }
-    Ok(())
+    Ok(out)
 }
 
 /// What is told above the choices.
@@ -82,15 +112,31 @@ fn extent_text(extent: HangExtent) -> &'static str {
     }
 }
 
-/// What decided a run of the text's program, line by line. What was tried and what is proved is
-/// told apart; at most 12 choices are told. The only error is want of memory.
-pub fn told(alloc: Global, text: &[u8], decided: &Decided) -> Result<String, AllocError> {
-    let lines = lines_of(alloc, text)?;
-    let mut out = String::from_str(alloc, "what decided it:\n")?;
-    out.push_str(extent_text(decided.extent))?;
-    put_choices(&mut out, &lines, &decided.choices)?;
+/// What is told below the choices.
+fn behind(alloc: Global, decided: &Decided) -> Result<String, AllocError> {
+    let mut out = String::new(alloc);
+    let more = decided.choices.len().saturating_sub(MOST_TOLD);
+    if more > 0 {
+        write!(out, "    and {more} more\n")?;
+    }
     if !decided.least {
         out.push_str("  it was not asked of all of them whether they are needed for that\n")?;
     }
+    Ok(out)
+}
+
+/// What decided a run of the text's program, line by line. What was tried and what is proved is
+/// told apart; at most 12 choices are told, each with what is known of it. The only error is want
+/// of memory.
+pub fn told(alloc: Global, text: &[u8], decided: &Decided) -> Result<String, AllocError>
+    ensures { IfOk result (λ told. TellsChoices decided.now.choices.items (string_bytes told)) }
+{
+    let lines = lines_of(alloc, text)?;
+    let choices = choice_lines(alloc, &lines, first_of(&decided.choices))?;
+    let behind = behind(alloc, decided)?;
+    let mut out = String::from_str(alloc, "what decided it:\n")?;
+    out.push_str(extent_text(decided.extent))?;
+    out.push_str(choices.as_str())?;
+    out.push_str(behind.as_str())?;
     Ok(out)
 }

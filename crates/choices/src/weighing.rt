@@ -10,6 +10,7 @@ ghost use Rattle.choices.specs.Weights.{AreWeighed, HangsWith, IsChoiceOf, IsWei
 use crate::asking::{Way, hangs_with, way_with};
 use crate::finding::choices_of;
 use crate::items::{AskingLimits, Choice, ChoiceNeed, Decided, Weighed};
+use crate::otherwise::with_issue;
 use crate::sufficing::choose;
 use callorder::LongProgram;
 use checker::{NoRun, Reason, stuck_run_of};
@@ -72,14 +73,10 @@ fn others_of<R: Threads + Wait + Sync>(
 /// The steps, with this one as it is of a send in buffered mode, where the choice is that the send
 /// was buffered.
 fn steps_with(alloc: Global, steps: &[Step], choice: &Choice) -> Result<Vec<Step>, AllocError> {
-    let mut pinned = Vec::from_slice(alloc, steps)?;
-    if choice.taken == ChoiceTaken::Buffered && choice.step < pinned.len() {
-        pinned[choice.step] = Step::Issue {
-            rank: choice.rank,
-            buffered: false,
-        };
+    if choice.taken == ChoiceTaken::Buffered {
+        return with_issue(alloc, steps, choice.step, choice.rank, false);
     }
-    Ok(pinned)
+    Vec::from_slice(alloc, steps)
 }
 
 /// Whether the program hangs with the choice pinned as in the run.
@@ -251,8 +248,9 @@ pub fn decide_run<R: Threads + Wait + Sync>(
 /// line, pinned as in the run, makes a program that has a run that ends stuck. It is known to be
 /// needed where no run ends stuck with the line of any other way, which a search has shown of each:
 /// then every run of the program that ends stuck makes the choice so
-/// ([`known_is_taken`](crate::known_is_taken)). It is tried where no such run was found, and not
-/// needed where one was. Programs of more than 256 calls are not searched, only walked.
+/// ([`known_is_taken`](crate::known_is_taken)). It is not needed where a run with such a line is one
+/// of the program itself that ends stuck and doesn't make the choice so, and tried where none was
+/// found. Programs of more than 256 calls are not searched, only walked.
 ///
 /// An evidence that shows no run that ends stuck is refused as `replay` refuses it; else the only
 /// refusal is want of memory.

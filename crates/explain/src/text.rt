@@ -3,14 +3,14 @@
 ghost use Rattle.std.specs.Prelude.{◌≡◌, IfOk};
 ghost use Rattle.semantics.specs.Machine.{IsStuckRun};
 ghost use Rattle.frequency.specs.Frequencies.{IsFrequency};
-ghost use Rattle.explain.specs.Often.{BeginsWithBytes, often_line};
+ghost use Rattle.explain.specs.Often.{TellsBelow, always_line, often_line};
 
 use crate::alike::{AlikeRanks, groups_of};
 use crate::balancing::{Calls, put_balance};
 use crate::needing::put_need;
 use crate::wording::{put_call_of, put_line, put_number_of, put_numbers};
 use callorder::LongProgram;
-use calltext::LongSource;
+use calltext::{LongSource, Policy};
 use frequency::Frequency;
 use scene::{MOST_OF_LARGE, Parting, RunChoice, Scene, choices_of, needed, parting_of, scene_of};
 use semantics::Step;
@@ -482,25 +482,16 @@ fn balance(alloc: Global, scene: &Scene<'_>, awaited: bool) -> Result<String, Al
     Ok(out)
 }
 
-/// Tells what the deadlock comes from, and then `decided`, a text on what decided it, and what the
-/// steps decided.
+/// Tells what the deadlock comes from.
 fn put_cause(
     out: &mut String,
     alloc: Global,
     scene: &Scene<'_>,
     lacks: &String,
-    decided: &str,
-    choices: &[RunChoice],
 ) -> Result<(), AllocError> {
     put_part(out, BALANCE, &balance(alloc, scene, true)?)?;
     put_cycle(out, scene)?;
-    put_part(out, "what can't come:", lacks)?;
-    out.push_str(decided)?;
-    put_part(
-        out,
-        "choices on the way:",
-        &choices_text(alloc, scene, choices)?,
-    )
+    put_part(out, "what can't come:", lacks)
 }
 
 /// Tells what is known of the end of the run; `other` is whether some ranks are told before.
@@ -526,25 +517,23 @@ fn put_end(
     put_part(out, BALANCE, &balance(alloc, scene, false)?)
 }
 
-/// Tells all of the end of a run but the first line.
-fn put_all(
-    out: &mut String,
-    alloc: Global,
-    scene: &Scene<'_>,
-    decided: &str,
-    choices: &[RunChoice],
-) -> Result<(), AllocError> {
-    let lacks = standings(alloc, scene, true)?;
-    put_cause(out, alloc, scene, &lacks, decided, choices)?;
-    put_end(out, alloc, scene, !lacks.is_empty())
+/// That the deadlock comes in every run that the program's policy allows.
+fn always_line(policy: Policy) -> &'static str
+    ensures { result.now ≡ always_line policy }
+{
+    match policy {
+        Policy::Any => "deadlock in every run (proved)\n",
+        Policy::Never => "deadlock in every run with policy none (proved)\n",
+        Policy::Always => "deadlock in every run with policy all (proved)\n",
+    }
 }
 
 /// The first line of a text on a deadlock, which says whether it comes in every run.
-fn often_line(frequency: &Frequency) -> &'static str
-    ensures { result.now ≡ often_line frequency.now }
+fn often_line(policy: Policy, frequency: &Frequency) -> &'static str
+    ensures { result.now ≡ often_line policy frequency.now }
 {
     match frequency {
-        Frequency::Always => "deadlock in every run (proved)\n",
+        Frequency::Always => always_line(policy),
         Frequency::Sometimes(_) => "deadlock in some runs; others end well\n",
         Frequency::Unknown => {
             "deadlock in every run that was tried; whether others end well isn't known\n"
@@ -552,13 +541,20 @@ fn often_line(frequency: &Frequency) -> &'static str
     }
 }
 
-/// A text below the line that says whether the deadlock comes in every run.
-fn below_often(alloc: Global, frequency: &Frequency, rest: &str) -> Result<Vec<u8>, AllocError>
-    ensures { IfOk result (λ told. BeginsWithBytes (often_line frequency.now) told.items) }
+/// The parts of a text below its first line.
+fn below_line(
+    alloc: Global,
+    line: &str,
+    front: &str,
+    decided: &str,
+    back: &str,
+) -> Result<Vec<u8>, AllocError>
+    ensures { IfOk result (λ told. TellsBelow line.now decided.now told.items) }
 {
-    let often = often_line(frequency);
-    let mut told = Vec::from_slice(alloc, often.as_bytes())?;
-    told.extend_from_slice(rest.as_bytes())?;
+    let mut told = Vec::from_slice(alloc, line.as_bytes())?;
+    told.extend_from_slice(front.as_bytes())?;
+    told.extend_from_slice(decided.as_bytes())?;
+    told.extend_from_slice(back.as_bytes())?;
     Ok(told)
 }
 
@@ -615,29 +611,44 @@ fn put_parting_from(
     put_parting(out, scene, parting)
 }
 
-/// The text below the first line.
-fn rest_of(
+/// What stands below the first line, and above what decided the run.
+fn front_of(
     alloc: Global,
     scene: &Scene<'_>,
     program: &LongProgram,
     steps: &[Step],
     frequency: &Frequency,
-    decided: &str,
+    lacks: &String,
 ) -> Result<String, AllocError>
     requires stuck { IsStuckRun program.now steps.now }
     requires frequency { IsFrequency program.now frequency.now }
 {
-    let choices = choices_of(alloc, program, steps)?;
     let count = steps.len();
     let noun = if count == 1 { "step" } else { "steps" };
     let mut out = format!(in alloc; "deadlock after {count} {noun}\n")?;
     put_parting_from(&mut out, alloc, scene, program, steps, frequency)?;
-    put_all(&mut out, alloc, scene, decided, &choices)?;
+    put_cause(&mut out, alloc, scene, lacks)?;
+    Ok(out)
+}
+
+/// What stands below what decided the run: what the steps decided, and the end; `other` is whether
+/// some ranks are told before.
+fn back_of(
+    alloc: Global,
+    scene: &Scene<'_>,
+    choices: &[RunChoice],
+    other: bool,
+) -> Result<String, AllocError> {
+    let mut out = String::new(alloc);
+    let heading = "choices on the way:";
+    put_part(&mut out, heading, &choices_text(alloc, scene, choices)?)?;
+    put_end(&mut out, alloc, scene, other)?;
     Ok(out)
 }
 
 /// The text, in plain ASCII, that explains a run of a program that ends stuck: whether every run
-/// does, as `frequency` tells, and where some end well, where the run first parts from such a one;
+/// does that the policy allows, as `frequency` tells, and where some end well, where the run first
+/// parts from such a one;
 /// channels whose sends and receives differ in number; a cycle of ranks that wait for one another,
 /// and the ranks for which nothing can come; then `decided`, a text on what decided it; the choices
 /// on the way; receives that took another message than a probe before them saw; where the other
@@ -656,9 +667,13 @@ pub fn explanation(
 ) -> Result<Vec<u8>, AllocError>
     requires stuck { IsStuckRun program.now steps.now }
     requires frequency { IsFrequency program.now frequency.now }
-    ensures { IfOk result (λ told. BeginsWithBytes (often_line frequency.now) told.items) }
+    ensures { IfOk result (λ told. TellsBelow (often_line program.now.policy frequency.now) decided.now told.items) }
 {
     let scene = scene_of(alloc, text, source, program, steps, whole)?;
-    let rest = rest_of(alloc, &scene, program, steps, frequency, decided)?;
-    below_often(alloc, frequency, &rest)
+    let choices = choices_of(alloc, program, steps)?;
+    let lacks = standings(alloc, &scene, true)?;
+    let front = front_of(alloc, &scene, program, steps, frequency, &lacks)?;
+    let back = back_of(alloc, &scene, &choices, !lacks.is_empty())?;
+    let line = often_line(program.policy(), frequency);
+    below_line(alloc, line, front.as_str(), decided, back.as_str())
 }

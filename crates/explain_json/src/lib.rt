@@ -6,4 +6,4 @@
 
 mod object;
 
-pub use object::{Decider, Deciders, object_text};
+pub use object::{ChoiceMade, Decider, Deciders, object_text};

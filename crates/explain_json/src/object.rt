@@ -1,7 +1,9 @@
 //! The JSON object that explains a run which ends stuck.
 
+ghost use Rattle.std.specs.Prelude.{◌≡◌, ◌++◌, IfOk, OnOk, map};
 ghost use Rattle.semantics.specs.Machine.{IsStuckRun};
 ghost use Rattle.frequency.specs.Frequencies.{IsFrequency};
+ghost use Rattle.explain_json.specs.Objects.{AreDecided, IsJoined, IsObject, object_head, runs_word, verdict_member};
 
 use callorder::LongProgram;
 use calltext::LongSource;
@@ -9,10 +11,10 @@ use frequency::Frequency;
 use scene::{CallLabel, Parting, RunChoice, Scene, choices_of, part_word, parting_of, scene_of};
 use semantics::Step;
 use serde::Serialize;
-use serde_json::to_string;
+use serde_json::{Error, to_string};
 use std::alloc::{AllocError, Global};
 use waits::{Fate, Standing, fate_of, fitting, misses_in, operation_of};
-use writing::put_characters;
+use writing::{Part as TextPart, put_characters, put_parts};
 
 /// A call as the program's text has it.
 #[derive(Drop, Serialize)]
@@ -61,9 +63,9 @@ struct Decision {
     others: Vec<usize>,
 }
 
-/// What decided a run: a send that was buffered, or not, or a call that found a message.
-#[derive(Drop, Serialize)]
-pub struct Decider {
+/// A choice that decided a run: a send that was buffered, or not, or a call that found a message.
+#[derive(Clone, Copy, Serialize)]
+pub struct ChoiceMade {
     /// `buffered`, `not buffered` or `finds`.
     pub kind: &'static str,
     /// The number of the call, from 1.
@@ -76,7 +78,14 @@ pub struct Decider {
     pub source: Option<u32>,
     /// The tag of that message.
     pub tag: Option<u32>,
-    /// What is known of runs that do otherwise.
+}
+
+/// A choice that decided a run, and what is known of it.
+#[derive(Clone, Copy)]
+pub struct Decider {
+    /// The choice.
+    pub choice: ChoiceMade,
+    /// What is known of runs that do otherwise, in letters and signs that stand for themselves.
     pub verdict: &'static str,
 }
 
@@ -85,6 +94,7 @@ pub struct Decider {
 pub struct Deciders {
     /// What is known of them together.
     pub extent: &'static str,
+    /// Each of them.
     pub choices: Vec<Decider>,
 }
 
@@ -104,18 +114,19 @@ struct Part {
     other: Option<usize>,
 }
 
-/// What is told of a deadlock.
+/// What is told of a deadlock above the list of what decided it.
 #[derive(Drop, Serialize)]
-struct Deadlock<'a> {
-    answer: &'a str,
-    status: u8,
-    runs: &'a str,
+struct Above<'a> {
     steps: usize,
     calls: Vec<Line>,
     ranks: Vec<Rank>,
     cycle: Vec<u32>,
     extent: &'a str,
-    decided: &'a Vec<Decider>,
+}
+
+/// What is told below that list.
+#[derive(Drop, Serialize)]
+struct Below {
     choices: Vec<Decision>,
     parting: Option<Part>,
     unreceived: Vec<usize>,
@@ -308,8 +319,10 @@ fn unbalanced_of(alloc: Global, scene: &Scene<'_>) -> Result<Vec<Unbalanced>, Al
     Ok(unbalanced)
 }
 
-/// In which runs the program gets stuck.
-fn runs_word(frequency: &Frequency) -> &'static str {
+/// In which of the runs that the program's policy allows it gets stuck.
+fn runs_word(frequency: &Frequency) -> &'static str
+    ensures { result.now ≡ runs_word frequency.now }
+{
     match frequency {
         Frequency::Always => "every",
         Frequency::Sometimes(_) => "some",
@@ -357,48 +370,129 @@ fn parting_from(
     Ok(parting.map(part_of))
 }
 
-/// What is told of the end of a run.
-fn deadlock_of<'a>(
+/// What is told above the list of what decided a run.
+fn above_list(
     alloc: Global,
     scene: &Scene<'_>,
-    program: &LongProgram,
     steps: &[Step],
-    frequency: &Frequency,
-    deciders: &'a Deciders,
-) -> Result<Deadlock<'a>, AllocError>
-    requires stuck { IsStuckRun program.now steps.now }
-    requires frequency { IsFrequency program.now frequency.now }
-{
-    let choices = choices_of(alloc, program, steps)?;
-    Ok(Deadlock {
-        answer: "deadlock",
-        status: 1,
-        runs: runs_word(frequency),
+    deciders: &Deciders,
+) -> Result<Vec<u8>, AllocError> {
+    let above = Above {
         steps: steps.len(),
         calls: lines_of(alloc, scene)?,
         ranks: ranks_of(alloc, scene)?,
         cycle: Vec::from_slice(alloc, &scene.cycle)?,
         extent: deciders.extent,
-        decided: &deciders.choices,
+    };
+    members_of(alloc, to_string(alloc, &above))
+}
+
+/// What is told below it.
+fn below_list(
+    alloc: Global,
+    scene: &Scene<'_>,
+    program: &LongProgram,
+    steps: &[Step],
+    frequency: &Frequency,
+) -> Result<Vec<u8>, AllocError>
+    requires stuck { IsStuckRun program.now steps.now }
+    requires frequency { IsFrequency program.now frequency.now }
+{
+    let choices = choices_of(alloc, program, steps)?;
+    let below = Below {
         choices: decisions_of(alloc, scene, &choices)?,
         parting: parting_from(alloc, scene, program, steps, frequency)?,
         unreceived: unreceived_of(alloc, scene)?,
         unbalanced: unbalanced_of(alloc, scene)?,
-    })
+    };
+    members_of(alloc, to_string(alloc, &below))
 }
 
-/// The text of an object.
-fn text_of(alloc: Global, deadlock: &Deadlock<'_>) -> Result<String, AllocError> {
+/// The members of an object that was written: its text without the brackets around them.
+fn members_of(alloc: Global, written: Result<String, Error>) -> Result<Vec<u8>, AllocError> {
     // The writer fails for want of memory alone.
-    let Ok(mut text) = to_string(alloc, deadlock) else {
+    let Ok(text) = written else {
         return Err(AllocError);
     };
-    text.push('\n')?;
+    let bytes = text.as_bytes();
+    let end = bytes.len().saturating_sub(1);
+    Vec::from_slice(alloc, &bytes[end.min(1)..end])
+}
+
+/// What stands before a choice in the list, from 0, and its members.
+fn choice_front(alloc: Global, place: usize, choice: &ChoiceMade) -> Result<Vec<u8>, AllocError> {
+    let members = members_of(alloc, to_string(alloc, choice))?;
+    let mut front = Vec::new(alloc);
+    front.extend_from_slice(if place == 0 { b"{" } else { b",{" })?;
+    front.extend_from_slice(&members)?;
+    Ok(front)
+}
+
+/// Adds a choice to the list of what decided a run.
+fn put_decided<'a>(out: &mut Vec<u8>, front: &'a [u8], verdict: &'a str) -> Result<(), AllocError>
+    ensures { OnOk result (out.new.items ≡ out.old.items ++ (front.now ++ verdict_member verdict.now)) }
+{
+    put_parts(
+        out,
+        &[
+            TextPart::Bytes(front),
+            TextPart::Text(",\"verdict\":\""),
+            TextPart::Text(verdict),
+            TextPart::Text("\"}"),
+        ],
+    )?;
+    Ok(())
+}
+
+/// The list of what decided a run, without its brackets.
+fn decided_text(alloc: Global, deciders: &[Decider]) -> Result<Vec<u8>, AllocError>
+    ensures { IfOk result (λ text. AreDecided (map (λ d. d.verdict.now) deciders.now) text.items) }
+{
+    let mut out = Vec::new(alloc);
+    for (place, decider) in deciders.iter().enumerate() {
+        let front = choice_front(alloc, place, &decider.choice)?;
+        put_decided(&mut out, &front, decider.verdict)?;
+    }
+    Ok(out)
+}
+
+/// The beginning of the object, which says in which runs the program gets stuck.
+fn head_of(alloc: Global, frequency: &Frequency) -> Result<Vec<u8>, AllocError>
+    ensures { IfOk result (λ head. head.items ≡ object_head frequency.now) }
+{
+    let mut head = Vec::from_slice(alloc, b"{\"answer\":\"deadlock\",\"status\":1,\"runs\":\"")?;
+    head.extend_from_slice(runs_word(frequency).as_bytes())?;
+    head.extend_from_slice(b"\",")?;
+    Ok(head)
+}
+
+/// The object: its beginning, the members above the list of what decided the run, that list, and
+/// the members below it.
+fn joined<'a>(
+    head: Vec<u8>,
+    above: &'a [u8],
+    decided: &'a [u8],
+    below: &'a [u8],
+) -> Result<Vec<u8>, AllocError>
+    ensures { IfOk result (λ text. IsJoined head.items above.now decided.now text.items) }
+{
+    let mut text = head;
+    put_parts(
+        &mut text,
+        &[
+            TextPart::Bytes(above),
+            TextPart::Text(",\"decided\":["),
+            TextPart::Bytes(decided),
+            TextPart::Text("],"),
+            TextPart::Bytes(below),
+            TextPart::Text("}\n"),
+        ],
+    )?;
     Ok(text)
 }
 
 /// The JSON object, on one line, that explains a run of a program that ends stuck: whether every
-/// run does; its calls with their lines and words; for each rank whether it is finished, the call
+/// run does that the policy allows; its calls with their lines and words; for each rank whether it is finished, the call
 /// that it waits in, the operation that this waits for, the ranks that it waits for, the calls that
 /// fit and what became of each, and near misses; a cycle of ranks; what decided it, with what is
 /// known of each; the choices on the way; where the run first parts from one that ends well; which
@@ -416,9 +510,12 @@ pub fn object_text(
 ) -> Result<Vec<u8>, AllocError>
     requires stuck { IsStuckRun program.now steps.now }
     requires frequency { IsFrequency program.now frequency.now }
+    ensures { IfOk result (λ told. IsObject frequency.now (map (λ d. d.verdict.now) deciders.now.choices.items) told.items) }
 {
     let scene = scene_of(alloc, text, source, program, steps, true)?;
-    let deadlock = deadlock_of(alloc, &scene, program, steps, frequency, deciders)?;
-    let text = text_of(alloc, &deadlock)?;
-    Ok(text.into_bytes())
+    let above = above_list(alloc, &scene, steps, deciders)?;
+    let decided = decided_text(alloc, &deciders.choices)?;
+    let below = below_list(alloc, &scene, program, steps, frequency)?;
+    let head = head_of(alloc, frequency)?;
+    joined(head, &above, &decided, &below)
 }

@@ -3,3 +3,4 @@ pub mod Drawn
 pub mod Losses
 pub mod Tellings
 pub mod Programs
+pub mod Verdicts

@@ -12,7 +12,8 @@ use Rattle.semantics.specs.declared.state.Step.{Step}
 use Rattle.charts.specs.Chart.{chart_of}
 use Rattle.explain.specs.Losing.{TellsLosses}
 use Rattle.explain.specs.Messages.{IsMessages}
-use Rattle.explain.specs.Often.{BeginsWithBytes, often_line}
+use Rattle.explain.specs.Often.{TellsBelow, often_line}
+use Rattle.explain_json.specs.Objects.{IsObject}
 use Rattle.frequency.specs.declared.judging.Frequency.{Frequency}
 use Rattle.frequency.specs.declared.judging.Frequency.TheVariants as often
 use Rattle.frequency.specs.Frequencies.{IsFrequency}
@@ -25,6 +26,8 @@ use Rattle.prooflog.specs.Refutations.{ClaimedRefutation}
 use Rattle.prooflog.specs.declared.evidence.Evidence.TheVariants.{Refutation}
 use Rattle.checker.specs.Headline.{Shows}
 use Rattle.checker.specs.Verdicts.{IsReason, RefutesProgram}
+use Rattle.reports.specs.Asking.{AreAsked, SaysWhatDecided, verdicts_of}
+use Rattle.reports.specs.declared.asked.Asked.{Asked}
 use Rattle.reports.specs.Sizes.{wildcards_with_choice, messages, open_sends, wildcards}
 use Rattle.reports.specs.declared.explained.Explained.{Explained}
 use Rattle.reports.specs.declared.explained.Explained.TheVariants as told
@@ -129,9 +132,16 @@ numbers_text m p claim = m.begin ++ (size_lines m p ++ (choice_lines m p ++ (cla
 abbrev pub counts_text : Form → MpiProgram → ClaimedRefutation → List ℕ
 counts_text form = numbers_text (marks_of form)
 
--- the text begins with how often the program gets stuck, which is so
-abbrev pub SaysHowOften : MpiProgram → List ℕ → Type 0
-SaysHowOften p text = (often : Frequency) × IsFrequency p often × BeginsWithBytes (often_line often) text
+-- the words begin with how often the program gets stuck, and tell below that what is known of
+-- choices, which holds
+pub record Says (program : List ℕ) (p : MpiProgram) (often : Frequency) (words : List ℕ) : Type 0 where
+  pub decided : List ℕ
+  pub holds : SaysWhatDecided program decided
+  pub tells : TellsBelow (often_line p.policy often) decided words
+
+-- the text says so, and the program gets stuck so often
+abbrev pub SaysHowOften : List ℕ → MpiProgram → List ℕ → Type 0
+SaysHowOften program p text = (often : Frequency) × IsFrequency p often × Says program p often text
 
 -- the steps of a run that ends well, where one is known
 abbrev pub well_steps : Frequency → Option (List Step)
@@ -145,20 +155,29 @@ pub record IsExplainedPage (program : List ℕ) (source : ProgramText) (p : MpiP
   pub often : Frequency
   pub is_often : IsFrequency p often
   pub words : List ℕ
-  pub says : BeginsWithBytes (often_line often) words
+  pub says : Says program p often words
   pub is_page : IsPage program source p steps (well_steps often) words page
 
+-- The object says how often the program gets stuck, which is so, and what is known of choices, which
+-- holds.
+pub record IsExplainedObject (program : List ℕ) (p : MpiProgram) (text : List ℕ) : Type 0 where
+  pub often : Frequency
+  pub is_often : IsFrequency p often
+  pub asked : Asked
+  pub holds : AreAsked program asked
+  pub is_object : IsObject often (verdicts_of asked) text
+
 -- the text draws the run of these steps, as a chart or as a picture, where the form is one of
--- these, and as a text says how often the program gets stuck; a page does both; and messages have a
--- line for each rank that waits
+-- these, and as a text or an object says how often the program gets stuck, and what is known of
+-- choices; a page does both; and messages have a line for each rank that waits
 abbrev pub IsDrawnFrom : Form → List ℕ → ProgramText → MpiProgram → List Step → List ℕ → Type 0
 IsDrawnFrom forms.Chart program source p steps text = text ≡ chart_of program source p steps
 IsDrawnFrom forms.Picture program source p steps text = IsPicture program source p steps text
 IsDrawnFrom forms.Page program source p steps text = IsExplainedPage program source p steps text
-IsDrawnFrom forms.Brief program source p steps text = SaysHowOften p text
-IsDrawnFrom forms.Whole program source p steps text = SaysHowOften p text
+IsDrawnFrom forms.Brief program source p steps text = SaysHowOften program p text
+IsDrawnFrom forms.Whole program source p steps text = SaysHowOften program p text
 IsDrawnFrom forms.Graph program source p steps text = Unit {0}
-IsDrawnFrom forms.Object program source p steps text = Unit {0}
+IsDrawnFrom forms.Object program source p steps text = IsExplainedObject program p text
 IsDrawnFrom forms.Messages program source p steps text = IsMessages program source p steps text
 
 -- so, of what the program's text says within limits

@@ -1,3 +1,4 @@
+pub mod Asking
 pub mod Explanations
 pub mod Exports
 pub mod Sizes

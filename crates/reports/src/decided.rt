@@ -7,8 +7,9 @@ ghost use Rattle.semantics.specs.Headline.{IsNeverStuckWithin, IsStuckRunWithin}
 ghost use Rattle.reports.specs.Explanations.{IsRunDrawn, TellsSizes};
 
 use crate::added::numbered;
+use crate::asked::ask_if_short;
 use crate::counts::sizes_text;
-use crate::telling::{ask_if_short, run_text};
+use crate::telling::run_text;
 use callorder::LongProgram;
 use calltext::{LongSource, read_long};
 use options::Form;

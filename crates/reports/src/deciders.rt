@@ -1,8 +1,12 @@
 //! What decided a run, for an object.
 
-use crate::telling::Asked;
-use choices::{ChoiceNeed, ChoiceTaken, Decided, HangExtent, Weighed};
-use explain_json::{Decider, Deciders};
+ghost use Rattle.std.specs.Prelude.{◌≡◌, IfOk, map};
+ghost use Rattle.choices.specs.Words.{need_words};
+ghost use Rattle.reports.specs.Asking.{verdicts_of};
+
+use crate::asked::Asked;
+use choices::{ChoiceTaken, Decided, HangExtent, Weighed, need_words};
+use explain_json::{ChoiceMade, Decider, Deciders};
 use std::alloc::{AllocError, Global};
 
 /// What is told of all choices together.
@@ -14,37 +18,39 @@ fn extent_words(extent: HangExtent) -> &'static str {
     }
 }
 
-/// What is told of a choice's other ways.
-fn verdict(need: ChoiceNeed) -> &'static str {
-    match need {
-        ChoiceNeed::Known => "without it no run hangs (proved)",
-        ChoiceNeed::Tried => "no run that hangs without it was found",
-        ChoiceNeed::No => "may hang otherwise too",
-        ChoiceNeed::NotAsked => "not asked whether it may hang otherwise",
-    }
-}
-
 /// A choice.
-fn decider_of(weighed: &Weighed) -> Decider {
+fn choice_of(weighed: &Weighed) -> ChoiceMade {
     let choice = &weighed.choice;
     let (kind, source, tag) = match choice.taken {
         ChoiceTaken::Buffered => ("buffered", None, None),
         ChoiceTaken::NotBuffered => ("not buffered", None, None),
         ChoiceTaken::Message { source, tag } => ("finds", Some(source), Some(tag)),
     };
-    Decider {
+    ChoiceMade {
         kind,
         call: choice.call.saturating_add(1),
         rank: choice.rank,
         line: choice.line,
         source,
         tag,
-        verdict: verdict(weighed.need),
+    }
+}
+
+/// A choice, and what is known of it.
+fn decider_of(weighed: &Weighed) -> Decider
+    ensures { result.verdict.now ≡ need_words weighed.now.need }
+{
+    Decider {
+        choice: choice_of(weighed),
+        verdict: need_words(weighed.need),
     }
 }
 
 /// The choices that decided a run.
-fn all_of(alloc: Global, decided: &Decided) -> Result<Deciders, AllocError> {
+fn all_of(alloc: Global, decided: &Decided) -> Result<Deciders, AllocError>
+    ensures { IfOk result (λ all.
+        map (λ d. d.verdict.now) all.choices.items ≡ map (λ w. need_words w.need) decided.now.choices.items) }
+{
     let mut choices = Vec::new(alloc);
     for weighed in &decided.choices {
         choices.push(decider_of(weighed))?;
@@ -56,7 +62,9 @@ fn all_of(alloc: Global, decided: &Decided) -> Result<Deciders, AllocError> {
 }
 
 /// What is known of what decided a run.
-pub fn deciders_of(alloc: Global, asked: &Asked) -> Result<Deciders, AllocError> {
+pub fn deciders_of(alloc: Global, asked: &Asked) -> Result<Deciders, AllocError>
+    ensures { IfOk result (λ all. map (λ d. d.verdict.now) all.choices.items ≡ verdicts_of asked.now) }
+{
     match asked {
         Asked::Known(decided) => all_of(alloc, decided),
         Asked::NotTold | Asked::TooLarge => Ok(Deciders {

@@ -7,8 +7,9 @@ ghost use Rattle.checker.specs.Verdicts.{AreShown, IsJudged};
 ghost use Rattle.reports.specs.Explanations.{Explains, IsDrawnFrom, TellsNumbers, counts_text};
 
 use crate::added::numbered;
+use crate::asked::ask;
 use crate::counts::counts_text;
-use crate::telling::{ask, run_text};
+use crate::telling::run_text;
 use callorder::LongProgram;
 use checker::{Judged, PieceGate, Reason, Refuted, StuckRun, judge};
 use options::Form;

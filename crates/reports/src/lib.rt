@@ -4,6 +4,7 @@
 #![tactic(auto)]
 
 mod added;
+mod asked;
 mod counts;
 mod decided;
 mod deciders;

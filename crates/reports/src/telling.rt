@@ -1,30 +1,29 @@
-//! A run that ends stuck in each form, and what decided it.
+//! A run that ends stuck in each form.
 
 ghost use Rattle.std.specs.Prelude.{◌≡◌, IfOk, option_copied};
 ghost use Rattle.calltext.specs.Grammar.{long};
-ghost use Rattle.callorder.specs.Resolving.{IsTextOf, IsTextOfWithin};
+ghost use Rattle.callorder.specs.Resolving.{IsTextOfWithin};
 ghost use Rattle.semantics.specs.RunEnds.{IsFinishedRun};
 ghost use Rattle.semantics.specs.Machine.{IsStuckRun};
 ghost use Rattle.frequency.specs.Frequencies.{IsFrequency};
-ghost use Rattle.explain.specs.Often.{BeginsWithBytes, often_line};
-ghost use Rattle.reports.specs.Explanations.{IsDrawnFrom, SaysHowOften, well_steps};
+ghost use Rattle.reports.specs.Asking.{AreAsked};
+ghost use Rattle.reports.specs.Explanations.{IsDrawnFrom, Says, SaysHowOften, well_steps};
 
+use crate::asked::{Asked, asked_text};
 use crate::deciders::deciders_of;
 use callorder::LongProgram;
 use calltext::LongSource;
 use charts::{chart, picture};
-use checker::{NoRun, Reason, program_of};
-use choices::{AskingLimits, Decided, decide, decide_run, told};
+use checker::{Reason, program_of};
 use explain::{explanation, messages, wait_graph};
 use explain_json::object_text;
 use finishing::frequency_of_program;
 use frequency::{Frequency, frequency_of};
 use htmlpage::page;
-use options::{Form, Options};
+use options::Form;
 use prover::{finished_walk, run_that_parts_last};
 use semantics::Step;
 use std::alloc::{AllocError, Global};
-use std::sync::Wait;
 use std::thread::Threads;
 
 /// The most calls of a program of which runs by chance are tried.
@@ -35,85 +34,6 @@ const FEW_CALLS_OF_A_FORMULA: usize = 256;
 
 /// How many conflicts it takes before it is given up.
 const CONFLICTS: u64 = 20_000;
-
-/// How much is asked about what decided a run.
-fn limits() -> AskingLimits {
-    AskingLimits {
-        walks: 4_000,
-        ways: 64,
-        search: Options::make(1, 0, 2_000).unwrap_or(Options::default()),
-    }
-}
-
-/// Whether a form tells what decided a run.
-fn tells_choices(form: Form) -> bool {
-    match form {
-        Form::Brief | Form::Whole | Form::Page | Form::Object => true,
-        Form::Graph | Form::Chart | Form::Picture | Form::Messages => false,
-    }
-}
-
-/// What is known of what decided a run.
-#[derive(Drop)]
-pub enum Asked {
-    /// The form doesn't tell it.
-    NotTold,
-    /// The program is larger than the formula takes.
-    TooLarge,
-    /// It was asked.
-    Known(Decided),
-}
-
-/// What decided a run of the program of a text, which ends stuck, where the form tells it.
-pub fn ask<R: Threads + Wait + Sync>(
-    rt: &R,
-    alloc: Global,
-    text: &[u8],
-    program: &LongProgram,
-    steps: &[Step],
-    form: Form,
-) -> Result<Asked, AllocError>
-    requires stuck { IsStuckRun program.now steps.now }
-    requires program { IsTextOf text.now program.now }
-{
-    if !tells_choices(form) {
-        return Ok(Asked::NotTold);
-    }
-    let decided = decide_run(rt, alloc, text, program, steps, limits())?;
-    Ok(Asked::Known(decided))
-}
-
-/// The same of a program of any length, by the text of the steps as an evidence: it is asked only
-/// of a program that `prove` takes.
-pub fn ask_if_short<R: Threads + Wait + Sync>(
-    rt: &R,
-    alloc: Global,
-    program: &[u8],
-    evidence: &[u8],
-    form: Form,
-) -> Result<Asked, AllocError> {
-    if !tells_choices(form) {
-        return Ok(Asked::NotTold);
-    }
-    match decide(rt, alloc, program, evidence, limits()) {
-        Ok(decided) => Ok(Asked::Known(decided)),
-        Err(NoRun::Refused(Reason::Memory)) => Err(AllocError),
-        // The program is larger than the formula takes, since the evidence shows a run.
-        Err(_refused) => Ok(Asked::TooLarge),
-    }
-}
-
-/// The text on what decided a run.
-fn asked_text(alloc: Global, text: &[u8], asked: &Asked) -> Result<String, AllocError> {
-    match asked {
-        Asked::NotTold => Ok(String::new(alloc)),
-        Asked::TooLarge => String::from_str(
-            alloc,
-            "what decided it:\n  asked only of programs that prove takes\n",
-        ),
-        Asked::Known(decided) => told(alloc, text, decided),
-    }
-}
 
 /// How often the runs of a program get stuck, where no run that was tried finishes: of a program of
 /// at most 256 calls, a formula is asked.
@@ -217,11 +137,19 @@ fn words_of(
 ) -> Result<Vec<u8>, AllocError>
     requires stuck { IsStuckRun program.now steps.now }
     requires frequency { IsFrequency program.now frequency.now }
-    ensures { IfOk result (λ told. BeginsWithBytes (often_line frequency.now) told.items) }
+    requires asked { AreAsked text.now asked.now }
+    ensures { IfOk result (λ told. Says text.now program.now frequency.now told.items) }
 {
     let decided = asked_text(alloc, text, asked)?;
     explanation(
-        alloc, text, source, program, steps, frequency, &decided, whole,
+        alloc,
+        text,
+        source,
+        program,
+        steps,
+        frequency,
+        decided.as_str(),
+        whole,
     )
 }
 
@@ -238,7 +166,8 @@ fn explained_text<R: Threads + Sync>(
 ) -> Result<Vec<u8>, AllocError>
     requires text { IsTextOfWithin long text.now program.now }
     requires stuck { IsStuckRun program.now steps.now }
-    ensures { IfOk result (λ told. SaysHowOften program.now told.items) }
+    requires asked { AreAsked text.now asked.now }
+    ensures { IfOk result (λ told. SaysHowOften text.now program.now told.items) }
 {
     let frequency = often(rt, alloc, text, program, steps)?;
     words_of(
@@ -269,6 +198,7 @@ fn explained_page<R: Threads + Sync>(
 ) -> Result<Vec<u8>, AllocError>
     requires text { IsTextOfWithin long text.now program.now }
     requires stuck { IsStuckRun program.now steps.now }
+    requires asked { AreAsked text.now asked.now }
     ensures { IfOk result (λ told. IsDrawnFrom Form.Page text.now source.now program.now steps.now told.items) }
 {
     let frequency = often(rt, alloc, text, program, steps)?;
@@ -291,6 +221,8 @@ fn explained_object<R: Threads + Sync>(
 ) -> Result<Vec<u8>, AllocError>
     requires text { IsTextOfWithin long text.now program.now }
     requires stuck { IsStuckRun program.now steps.now }
+    requires asked { AreAsked text.now asked.now }
+    ensures { IfOk result (λ told. IsDrawnFrom Form.Object text.now source.now program.now steps.now told.items) }
 {
     let frequency = often(rt, alloc, text, program, steps)?;
     let deciders = deciders_of(alloc, asked)?;
@@ -310,6 +242,7 @@ pub fn run_text<R: Threads + Sync>(
 ) -> Result<Vec<u8>, AllocError>
     requires text { IsTextOfWithin long text.now program.now }
     requires stuck { IsStuckRun program.now steps.now }
+    requires asked { AreAsked text.now asked.now }
     ensures { IfOk result (λ told. IsDrawnFrom form text.now source.now program.now steps.now told.items) }
 {
     match form {

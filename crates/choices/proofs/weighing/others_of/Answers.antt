@@ -1,11 +1,10 @@
 use Rattle.std.proofs.Common.{◌∙◌, arith}
-use Rattle.choices.proofs.Ways.{some_hangs, never_more, never_any}
+use Rattle.choices.proofs.Ways.{hangs_so, never_more, never_any}
 use Rattle.choices.proofs.weighing.others_of.Goals as goal
 
 pub returns-then-is_hanging : goal.returns-then-is_hanging
 returns-then-is_hanging g c =
-    some_hangs c.args.text.now c.args.choice.now.line c.args.program.now c.args.choice.now.call c.deref-other-items.result.now c.args.choice.now.others.items c.loop-other.other-index _ c.in_ok-way.way (omega arith)
-    c.deref-other-items.ensures.value (c.is_hanging.ensures c.if-is_hanging.true) c.in_ok-way.ensures
+    hangs_so c.args.text.now c.args.program.now c.args.choice.now _ c.in_ok-way.way (c.is_hanging.ensures c.if-is_hanging.true) c.in_ok-way.ensures
 
 pub loop-other-init : goal.loop-other-init
 loop-other-init g c =
