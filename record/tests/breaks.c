@@ -3,6 +3,7 @@
 #include <signal.h>
 #include <stdlib.h>
 #include <string.h>
+#include <unistd.h>
 
 int main(int argc, char **argv) {
     int rank, value = 1;
@@ -10,6 +11,7 @@ int main(int argc, char **argv) {
     MPI_Comm_rank(MPI_COMM_WORLD, &rank);
     MPI_Barrier(MPI_COMM_WORLD);
     if (rank == 1) {
+        sleep(1);
         if (argc < 2 || !strcmp(argv[1], "exit")) exit(9);
         if (!strcmp(argv[1], "signal")) raise(SIGSEGV);
         MPI_Abort(MPI_COMM_WORLD, 9);
