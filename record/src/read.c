@@ -275,13 +275,11 @@ static void read_call(struct rank *rank, int *most) {
     call->comm = WRONG;
     call->function = same(word(1));
     call->op = (unsigned char)operation_of(word(2));
-    int all = word_count, end = 3;
-    while (end < all && !is_word(end, "@")) end++;
-    if (end == all) fail_reading("a word is missing");
+    int end = 3;
+    while (end < word_count && !is_word(end, "@")) end++;
+    if (end >= word_count) fail_reading("a word is missing");
     check_words(call->op, end - 3);
-    word_count = end;  /* no operand is looked for among the call sites */
     read_operands(rank, call, end);
-    word_count = all;
     if (call->id > 0 && call->op != OP_FREE && call->op != OP_CANCEL) note_start(rank, call->id);
     if (call->of > rank->most_request || (call->of > 0 && !rank->starts[call->of])) fail_reading("a message is missing");
     call->sites = read_sites(rank, end + 1);
