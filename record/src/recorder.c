@@ -156,15 +156,14 @@ void end_call(void) {
     }
     calls++;
     void *frames[MOST_FRAMES];
-    int count = backtrace(frames, MOST_FRAMES);
-    put(" @");
-    for (int i = 0, kept = 0; i < count && kept < KEPT_FRAMES; i++) {
+    int numbers[KEPT_FRAMES], kept = threads_told ? 0 : python_sites(numbers, KEPT_FRAMES);
+    int count = kept ? 0 : backtrace(frames, MOST_FRAMES);
+    for (int i = 0; i < count && kept < KEPT_FRAMES; i++) {
         int number = site_number(frames[i]);
-        if (number) {
-            put(" %d", number);
-            kept++;
-        }
+        if (number) numbers[kept++] = number;
     }
+    put(" @");
+    for (int i = 0; i < kept; i++) put(" %d", numbers[i]);
     put("\n");
     write_line();
     lines_told++;

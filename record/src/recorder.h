@@ -62,6 +62,8 @@ void check_result(int result);
 extern _Thread_local int lines_told;  /* of the call that the program is in */
 
 int site_number(void *address);  /* sites.c: 0 for one in the MPI library */
+int tell_python_site(const char *text);
+int python_sites(int *numbers, int most);
 
 long bytes_of(long count, MPI_Datatype type);
 
