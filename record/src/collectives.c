@@ -296,8 +296,8 @@ EXPORTED int MPI_Init_thread(int *argc, char ***argv, int required, int *provide
 }
 EXPORTED int PMPI_Init_thread(int *argc, char ***argv, int required, int *provided) __attribute__((alias("MPI_Init_thread")));
 
-WRAP(Finalize, (void), (), begin_call(function, "end"); end_call(); end_recording();, )
-WRAP(Abort, (MPI_Comm comm, int code), (comm, code), begin_call(function, "abort"); end_call(); end_recording();, )
+WRAP(Finalize, (void), (), end_recording(function, "end");, )
+WRAP(Abort, (MPI_Comm comm, int code), (comm, code), end_recording(function, "abort");, )
 
 EXPORTED int MPI_Pcontrol(const int level, ...) {
     if (enter()) {

@@ -213,6 +213,7 @@ void look_at_ends(void);  /* ends the program where the run broke off */
 void find_end(void);
 void end_at_cut(void);
 void put_end(FILE *map, int phase);
+void tell_end(void);  /* on standard output */
 int status_of_end(void);
 
 /* phases.c: how many phases there are; what stands behind the last cut is left out */

@@ -247,6 +247,27 @@ static void put_missing(FILE *map, const struct instance *instance) {
     }
 }
 
+/* Where the ranks stand that didn't end. Gives how many of them there are beyond those that are told. */
+static int put_open(FILE *file, int most) {
+    int open = 0;
+    for (int r = 0; r < rank_count; r++) {
+        if (!is_open(ranks + r) && !ranks[r].cut) continue;
+        if (open++ >= most) continue;
+        fprintf(file, "text open: rank %d, ", r);
+        put_last_call(file, r);
+    }
+    return open > most ? open - most : 0;
+}
+
+#define MOST_TOLD 8
+
+void tell_end(void) {
+    if (end == E_FINISHED) return;
+    printf("text ends: %s\n", end_words[end]);
+    int more = end == E_AT_A_CUT || end == E_MARKS ? 0 : put_open(stdout, MOST_TOLD);
+    if (more) printf("text open: and %d ranks more\n", more);
+}
+
 void put_end(FILE *map, int phase) {
     if (phase >= 0 && phase + 1 < phase_count) {
         fprintf(map, "text ends: %s\n", end_words[E_AT_A_CUT]);
@@ -254,11 +275,7 @@ void put_end(FILE *map, int phase) {
     }
     fprintf(map, "text ends: %s\n", end_words[end]);
     if (end == E_AT_A_CUT || end == E_MARKS) return;
-    for (int r = 0; r < rank_count; r++)
-        if (is_open(ranks + r) || ranks[r].cut) {
-            fprintf(map, "text open: rank %d, ", r);
-            put_last_call(map, r);
-        }
+    put_open(map, rank_count);
     for (int g = 0; g < group_count; g++)
         for (int k = 0; k < groups[g]->instance_count; k++)
             if (groups[g]->instances[k]->arrived < groups[g]->size) put_missing(map, groups[g]->instances[k]);

@@ -83,14 +83,19 @@ static void tell_rank(int r) {
              place_of(rank, first), first->wrong);
 }
 
-/* The first call that is left out. */
+/* The first call of each function that is left out. */
 static void tell_left_out(void) {
+    const char *told[100];
+    int count = 0;
     for (int r = 0; r < rank_count; r++)
         for (int i = 0; i < ranks[r].count; i++) {
             const struct call *call = ranks[r].calls + i;
+            int k = 0;
             if (call->op != OP_LEFT || !strcmp(call->function, "MPI_Comm_free")) continue;
+            while (k < count && told[k] != call->function) k++;
+            if (k < count || count == 100) continue;
+            told[count++] = call->function;
             note("left out: %s in %s", call->function, place_of(ranks + r, call));
-            return;
         }
 }
 

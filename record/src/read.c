@@ -462,8 +462,8 @@ static void read_line(struct rank *rank, char *text, int *most) {
         read_failure(last);
     else if (!strcmp(what, "found") && last)
         read_found(rank, last);
-    else if (!strcmp(what, "state") && (is_word(1, "i") || is_word(1, "b")) && !rank->comm_count)
-        rank->inside = *word(1);
+    else if (!strcmp(what, "state") && (is_word(1, "i") || is_word(1, "b") || is_word(1, "?")) && !rank->comm_count)
+        rank->inside = is_word(1, "?") ? 0 : *word(1);
     else if (!strcmp(what, "cut"))
         rank->cut = 1;
     else if (!strcmp(what, "threads"))

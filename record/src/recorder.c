@@ -255,8 +255,8 @@ void end_handler(int before) {
     if (inside) *inside = 'i';
 }
 
-/* The second line is `state b` behind a call and `state i` inside of one. It is changed in place, so it can be read of a rank that was
-   killed. */
+/* The second line is `state b` behind a call and `state i` inside of one, or `state ?` where the file can't be mapped. It is changed in
+   place, so it can be read of a rank that was killed. */
 static void first_lines(int rank, int size) {
     char version[MPI_MAX_LIBRARY_VERSION_STRING];
     int length;
@@ -265,10 +265,12 @@ static void first_lines(int rank, int size) {
     line_length = 0;
     put("recording 1 %d %d %s\nstate ", rank, size, version);
     size_t at = line_length;
-    put("b\n");
+    put("?\n");
     write_line();
-    char *page = file < 0 ? MAP_FAILED : mmap(NULL, 4096, PROT_READ | PROT_WRITE, MAP_SHARED, file, 0);
-    if (page != MAP_FAILED && at < 4096) inside = page + at;
+    char *page = file < 0 || at >= 4096 ? MAP_FAILED : mmap(NULL, 4096, PROT_READ | PROT_WRITE, MAP_SHARED, file, 0);
+    if (page == MAP_FAILED) return;
+    inside = page + at;
+    *inside = 'b';
 }
 
 static const char *directory(void) {
@@ -317,7 +319,11 @@ void start_recording(void) {
     inside_marks = !by_marks;
 }
 
-void end_recording(void) {
+/* The end is told also outside of marks. */
+void end_recording(const char *function, const char *operation) {
+    inside_marks = 1;
+    begin_call(function, operation);
+    end_call();
     ended = 1;
     if (file >= 0) close(file);
     file = -1;

@@ -37,7 +37,7 @@ struct request {
 #define UNKNOWN (-1)  /* the name of a request whose start was not recorded */
 
 void start_recording(void);
-void end_recording(void);
+void end_recording(const char *function, const char *operation);
 void pass_mark(int level);
 
 /* Memory, or the end of the process where there is none. */

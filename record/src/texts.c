@@ -421,6 +421,7 @@ void write_text(const char *name, int phase, const char *suffix) {
     write_file(name, "mpi", text.bytes, text.size);
     write_map(name, &text);
     for (int i = 0; i < note_count && phase < 0; i++) printf("note: %s\n", notes[i]);
+    if (phase < 0) tell_end();
     tell_text(name, &text);
     printf("%s\n", suffix);
     free_text(&text);
