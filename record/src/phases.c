@@ -15,7 +15,7 @@ struct side {
 };
 
 static void pass(struct side *side, const struct call *call) {
-    if (call->message && (call->op == OP_PROBE || call->op == OP_IPROBE)) {
+    if (call->message && call->op == OP_PROBE) {
         side->balance--;
         side->open++;
         return;
@@ -37,7 +37,6 @@ static void pass(struct side *side, const struct call *call) {
         side->open++;
         break;
     case OP_MPROBE:
-    case OP_IMPROBE:
         if (call->peer == NOBODY) break;
         side->balance--;
         side->open++;

@@ -118,104 +118,59 @@ static int read_tag(struct call *call, int i, int any) {
     return (int)digits(word(i), INT_MAX);
 }
 
-static void read_envelope(const struct rank *rank, struct call *call, int from, int any) {
-    call->comm = read_comm_of(rank, from);
-    call->peer = read_peer(rank, call, from + 1, any);
-    call->tag = read_tag(call, from + 2, any);
-}
-
 /* A request whose start was not recorded is `?`. */
-static void read_list(struct call *call, int from, int to) {
-    if (to <= from) return;
-    call->list = room(NULL, sizeof(int) * (size_t)(to - from));
-    for (int i = from; i < to; i++) call->list[call->count++] = is_word(i, "?") ? WRONG : positive(i);
+static int read_name(int i) { return is_word(i, "?") ? WRONG : positive(i); }
+
+static unsigned char read_mode(int i) {
+    if (!*word(i) || !strchr("tsbr", *word(i)) || word(i)[1]) fail_reading("the mode of a send is unknown");
+    return (unsigned char)*word(i);
 }
 
-static void read_collective(const struct rank *rank, struct call *call, int from, int end) {
-    if (end < from + 4) fail_reading("a word is missing");
-    call->kind = same(word(from));
-    call->comm = read_comm_of(rank, from + 1);
-    call->root = is_word(from + 2, "-") ? NOBODY : read_member(rank, call, from + 2, "root");
-    call->bytes = bytes(from + 3);
-    if (end > from + 4) call->list = room(NULL, sizeof(int) * (size_t)(end - from - 4));
-    for (int i = from + 4; i < end; i++) call->list[call->count++] = read_member(rank, call, i, "source");
-}
+static int read_root(const struct rank *rank, struct call *call, int i) { return is_word(i, "-") ? NOBODY : read_member(rank, call, i, "root"); }
 
-static void read_mode(struct call *call) {
-    if (!*word(3) || !strchr("tsbr", *word(3)) || word(3)[1]) fail_reading("the mode of a send is unknown");
-    call->mode = (unsigned char)*word(3);
-}
+/* What stands between the operation and the call sites, a letter for each word: P, T, Q, U where a wildcard may stand, `h` and `q` a
+   message and a request that may be missing, `n` and `f` any number of requests and of members. */
+static const char *const operands[] = {[OP_SEND] = "mcptb", [OP_ISEND] = "micptb", [OP_RECV] = "cPTb",     [OP_IRECV] = "icPTb",
+                                       [OP_PROBE] = "cPT",  [OP_MPROBE] = "icPT",  [OP_SENDRECV] = "cptbQUB", [OP_IPROBE] = "cPT",
+                                       [OP_IMPROBE] = "icPT", [OP_MRECV] = "h",    [OP_IMRECV] = "ih",     [OP_WAIT] = "n",
+                                       [OP_TOOK] = "n",     [OP_ANY] = "n",        [OP_POLLS] = "n",       [OP_FREE] = "q",
+                                       [OP_CANCEL] = "q",   [OP_COLL] = "kcrbf",   [OP_ICOLL] = "ikcrbf",  [OP_LEFT] = "",
+                                       [OP_OTHER] = "",     [OP_END] = "",         [OP_ABORT] = ""};
 
-static int name_or_none(int i, int end) { return end <= i ? 0 : is_word(i, "?") ? WRONG : positive(i); }
-
-/* How many words may stand between the operation and the call sites. */
-static void check_words(enum operation op, int count) {
-    static const struct {
-        int least, most;
-    } of[] = {[OP_SEND] = {5, 5}, [OP_ISEND] = {6, 6}, [OP_RECV] = {4, 4}, [OP_IRECV] = {5, 5}, [OP_SENDRECV] = {7, 7}, [OP_PROBE] = {3, 3},
-              [OP_MPROBE] = {4, 4}, [OP_MRECV] = {0, 1}, [OP_IMRECV] = {1, 2}, [OP_IPROBE] = {3, 3}, [OP_IMPROBE] = {4, 4}, [OP_WAIT] = {0, INT_MAX},
-              [OP_TOOK] = {0, INT_MAX}, [OP_ANY] = {0, INT_MAX}, [OP_POLLS] = {0, INT_MAX}, [OP_FREE] = {0, 1}, [OP_CANCEL] = {0, 1},
-              [OP_COLL] = {4, INT_MAX}, [OP_ICOLL] = {5, INT_MAX}, [OP_LEFT] = {0, 0}, [OP_OTHER] = {0, 0}, [OP_END] = {0, 0}, [OP_ABORT] = {0, 0}};
-    if (count < of[op].least) fail_reading("a word is missing");
-    if (count > of[op].most) fail_reading("a call has too many words");
-}
-
-/* What stands between the operation and the call sites, whose words begin behind `end`. */
-static void read_operands(const struct rank *rank, struct call *call, int end) {
-    switch (call->op) {
-    case OP_SEND:
-        read_mode(call);
-        read_envelope(rank, call, 4, 0);
-        call->bytes = bytes(7);
-        break;
-    case OP_ISEND:
-        read_mode(call);
-        call->id = positive(4);
-        read_envelope(rank, call, 5, 0);
-        call->bytes = bytes(8);
-        break;
-    case OP_RECV:
-        read_envelope(rank, call, 3, 1);
-        call->bytes = bytes(6);
-        break;
-    case OP_PROBE:
-    case OP_IPROBE: read_envelope(rank, call, 3, 1); break;
-    case OP_IRECV:
-        call->id = positive(3);
-        read_envelope(rank, call, 4, 1);
-        call->bytes = bytes(7);
-        break;
-    case OP_MPROBE:
-    case OP_IMPROBE:
-        call->id = positive(3);
-        read_envelope(rank, call, 4, 1);
-        break;
-    case OP_SENDRECV:
-        read_envelope(rank, call, 3, 0);
-        call->bytes = bytes(6);
-        call->peer2 = read_peer(rank, call, 7, 1), call->tag2 = read_tag(call, 8, 1), bytes(9);
-        break;
-    case OP_MRECV: call->of = name_or_none(3, end); break;
-    case OP_IMRECV: call->id = positive(3), call->of = name_or_none(4, end); break;
-    case OP_FREE:
-    case OP_CANCEL: call->id = name_or_none(3, end); break;
-    case OP_POLLS:
-        if (strstr(call->function, "probe")) {
-            read_envelope(rank, call, 3, 1);
-            break;
-        }
-        read_list(call, 3, end);
-        break;
-    case OP_WAIT:
-    case OP_TOOK:
-    case OP_ANY: read_list(call, 3, end); break;
-    case OP_COLL: read_collective(rank, call, 3, end); break;
-    case OP_ICOLL:
-        call->id = positive(3);
-        read_collective(rank, call, 4, end);
-        break;
-    default: break;
+static void read_operand(const struct rank *rank, struct call *call, char what, int i) {
+    switch (what) {
+    case 'm': call->mode = read_mode(i); break;
+    case 'i': call->id = positive(i); break;
+    case 'c': call->comm = read_comm_of(rank, i); break;
+    case 'p': call->peer = read_peer(rank, call, i, 0); break;
+    case 'P': call->peer = read_peer(rank, call, i, 1); break;
+    case 'Q': call->peer2 = read_peer(rank, call, i, 1); break;
+    case 't': call->tag = read_tag(call, i, 0); break;
+    case 'T': call->tag = read_tag(call, i, 1); break;
+    case 'U': call->tag2 = read_tag(call, i, 1); break;
+    case 'b': call->bytes = bytes(i); break;
+    case 'B': bytes(i); break;
+    case 'k': call->kind = same(word(i)); break;
+    case 'r': call->root = read_root(rank, call, i); break;
+    case 'h': call->of = read_name(i); break;
+    case 'q': call->id = read_name(i); break;
+    case 'n': call->list[call->count++] = read_name(i); break;
+    default: call->list[call->count++] = read_member(rank, call, i, "source");
     }
+}
+
+static void read_operands(const struct rank *rank, struct call *call, int end) {
+    const char *form = call->op == OP_POLLS && strstr(call->function, "probe") ? operands[OP_PROBE] : operands[call->op];
+    int i = 3;
+    for (; *form; form++) {
+        int many = *form == 'n' || *form == 'f', optional = many || *form == 'h' || *form == 'q';
+        if (i >= end && !optional) fail_reading("a word is missing");
+        if (many && i < end) call->list = room(NULL, sizeof(int) * (size_t)(end - i));
+        do {
+            if (i < end) read_operand(rank, call, *form, i++);
+        } while (many && i < end);
+    }
+    if (i < end) fail_reading("a call has too many words");
 }
 
 /* A request or message is made once, by numbers from 1 on, so no name is above the number of calls by much. */
@@ -278,7 +233,6 @@ static void read_call(struct rank *rank, int *most) {
     int end = 3;
     while (end < word_count && !is_word(end, "@")) end++;
     if (end >= word_count) fail_reading("a word is missing");
-    check_words(call->op, end - 3);
     read_operands(rank, call, end);
     if (call->id > 0 && call->op != OP_FREE && call->op != OP_CANCEL) note_start(rank, call->id);
     if (call->of > rank->most_request || (call->of > 0 && !rank->starts[call->of])) fail_reading("a message is missing");
