@@ -186,8 +186,10 @@ const char *words_of(const struct rank *rank, const struct call *call);    /* th
 const char *callers_of(const struct rank *rank, const struct call *call);  /* each behind ` < ` */
 void put_files(FILE *file);
 
+/* groups.c */
 int place_in(const struct group *group, int rank);  /* the number of a rank in it, or -1 */
 struct group *group_of(const struct rank *rank, const struct call *call);
+struct group *group_named(const char *name, int rank, int size, int *members, const char **fault);
 
 /* polls.c: waits and probes that were polled for, or taken one by one */
 void settle_polls(int rank);
