@@ -123,6 +123,7 @@ int main(int argc, char **argv) {
     for (int seed = first; seed < first + times; seed++) {
         srand((unsigned)seed);
         read_all(argv[5 + chance(argc - 5)]);
+        if (!ranks) return 5;
         for (int k = 1 + chance(3); k; k--) change();
         write_all(argv[4]);
         free_all();
