@@ -6,13 +6,14 @@
 #include "recorder.h"
 
 #include <stddef.h>
+#include <stdio.h>
 #include <stdlib.h>
 
 static _Thread_local int keep;
 
 static void put_root(const struct comm *comm, int root) {
     if (root < 0 || root >= comm->size || comm->inter)
-        put(" ?");
+        put(" ?%d", root);
     else
         put(" %d", comm->members[root]);
 }
@@ -21,7 +22,8 @@ static void put_root(const struct comm *comm, int root) {
 static void begin_collective(const char *function, const char *kind, const struct comm *comm, const MPI_Request *request) {
     begin_call(function, request ? "icoll" : "coll");
     if (request) put(" %d", keep = fresh_name());
-    put(" %s %d", kind, comm->inter ? -1 : comm->id);
+    put(" %s", kind);
+    put_comm(comm);
 }
 
 static void tell(const char *function, const char *kind, MPI_Comm handle, const MPI_Request *request, long bytes) {
@@ -41,7 +43,7 @@ static void tell_rooted(const char *function, const char *kind, MPI_Comm handle,
 /* What the rank gives to others or takes, where it may be told to use the buffer in place. */
 static long given(MPI_Comm handle, const void *sendbuf, int sendcount, MPI_Datatype sendtype, const int *recvcounts, int recvcount, MPI_Datatype recvtype) {
     if (sendbuf != MPI_IN_PLACE) return bytes_of(sendcount, sendtype);
-    return bytes_of(recvcounts ? recvcounts[comm_of(handle)->rank] : recvcount, recvtype);
+    return bytes_of(recvcounts ? recvcounts[comm_of(handle)->rank] : recvcount, recvtype);  /* of unknown ones the rank is 0 */
 }
 
 static int is_root(MPI_Comm handle, int root) { return comm_of(handle)->rank == root; }
@@ -49,14 +51,13 @@ static int is_root(MPI_Comm handle, int root) { return comm_of(handle)->rank == 
 static void tell_pairs(const char *function, const char *kind, MPI_Comm handle, const MPI_Request *request, const int *recvcounts,
                        MPI_Datatype type, const MPI_Datatype *types) {
     struct comm *comm = comm_of(handle);
+    int size = comm->inter || !recvcounts ? 0 : comm->size;
     long bytes = 0;
     begin_collective(function, kind, comm, request);
-    if (!comm->inter)
-        for (int i = 0; i < comm->size; i++) bytes += bytes_of(recvcounts[i], types ? types[i] : type);
+    for (int i = 0; i < size; i++) bytes += bytes_of(recvcounts[i], types ? types[i] : type);
     put(" - %ld", bytes);
-    if (!comm->inter)
-        for (int i = 0; i < comm->size; i++)
-            if (bytes_of(recvcounts[i], types ? types[i] : type) > 0) put(" %d", comm->members[i]);
+    for (int i = 0; i < size; i++)
+        if (bytes_of(recvcounts[i], types ? types[i] : type) > 0) put(" %d", comm->members[i]);
     end_call();
 }
 
@@ -86,7 +87,7 @@ BOTH(Reduce_scatter_block, reduce_scatter_block,
 BOTH(Reduce_scatter, reduce_scatter,
      (const void *sendbuf, void *recvbuf, const int counts[], MPI_Datatype type, MPI_Op op, MPI_Comm comm),
      (sendbuf, recvbuf, counts, type, op, comm),
-     tell(function, "Reduce_scatter", comm, request, comm_of(comm)->inter ? 0 : bytes_of(counts[comm_of(comm)->rank], type));)
+     tell(function, "Reduce_scatter", comm, request, comm_of(comm)->inter || !counts ? 0 : bytes_of(counts[comm_of(comm)->rank], type));)
 
 BOTH(Gather, gather,
      (const void *sendbuf, int sendcount, MPI_Datatype sendtype, void *recvbuf, int recvcount, MPI_Datatype recvtype, int root, MPI_Comm comm),
@@ -140,7 +141,7 @@ static int *sources_of(MPI_Comm handle, int *count) {
     if (topology == MPI_DIST_GRAPH) {
         int in, out, weighted;
         PMPI_Dist_graph_neighbors_count(handle, &in, &out, &weighted);
-        int *places = malloc(sizeof(int) * (size_t)(2 * (in + out) + 4)), *weights = places + in + out + 2;
+        int *places = room(NULL, sizeof(int) * (size_t)(2 * (in + out) + 4)), *weights = places + in + out + 2;
         PMPI_Dist_graph_neighbors(handle, in, places, weights, out, places + in, weights + in);
         *count = in;
         sources = places;
@@ -148,12 +149,12 @@ static int *sources_of(MPI_Comm handle, int *count) {
         int rank;
         PMPI_Comm_rank(handle, &rank);
         PMPI_Graph_neighbors_count(handle, rank, count);
-        sources = malloc(sizeof(int) * (size_t)(*count + 1));
+        sources = room(NULL, sizeof(int) * (size_t)(*count + 1));
         PMPI_Graph_neighbors(handle, rank, *count, sources);
     } else if (topology == MPI_CART) {
         int dims;
         PMPI_Cartdim_get(handle, &dims);
-        sources = malloc(sizeof(int) * (size_t)(2 * dims + 1));
+        sources = room(NULL, sizeof(int) * (size_t)(2 * dims + 1));
         for (int d = 0; d < dims; d++) {
             PMPI_Cart_shift(handle, d, 1, sources + 2 * d, sources + 2 * d + 1);
             for (int k = 0; k < 2; k++)
@@ -168,7 +169,7 @@ static int *sources_of(MPI_Comm handle, int *count) {
 static void tell_neighbours(const char *function, const char *kind, MPI_Comm handle, const MPI_Request *request, const int *counts, long bytes,
                             const MPI_Datatype *types) {
     struct comm *comm = comm_of(handle);
-    int count, *sources = sources_of(handle, &count);
+    int count = 0, *sources = comm->inter ? NULL : sources_of(handle, &count);
     begin_collective(function, kind, comm, request);
     put(" - %ld", bytes * count);
     for (int i = 0; i < count; i++)
@@ -204,13 +205,9 @@ BOTH(Neighbor_alltoallw, neighbor_alltoallw,
 /* ---- calls that make communicators ---- */
 
 /* Each of the parent's members counts those that were made of it, so all of them give it the same number. */
-static void born(int result, MPI_Comm parent, const MPI_Comm *made) {
-    struct comm *comm = comm_of(parent);
-    comm->children++;
-    if (result == MPI_SUCCESS) add_comm(*made, comm, -1);
-}
+#define MAKES(name, params, args, needs) \
+    WRAP(name, params, args, tell(function, #name, comm, 0, needs);, if (result == MPI_SUCCESS) add_child(*made, comm_of(comm));)
 
-#define MAKES(name, params, args, needs) WRAP(name, params, args, tell(function, #name, comm, 0, needs);, born(result, comm, made);)
 
 MAKES(Comm_dup, (MPI_Comm comm, MPI_Comm *made), (comm, made), 0)
 MAKES(Comm_dup_with_info, (MPI_Comm comm, MPI_Info info, MPI_Comm *made), (comm, info, made), 0)
@@ -230,11 +227,50 @@ MAKES(Dist_graph_create_adjacent,
        const int destweights[], MPI_Info info, int reorder, MPI_Comm *made),
       (comm, indegree, sources, sourceweights, outdegree, destinations, destweights, info, reorder, made), 0)
 
-/* Only the group's members call it, so it is none of the parent's collectives, and the parent's members don't count it. */
-WRAP(Comm_create_group, (MPI_Comm comm, MPI_Group group, int tag, MPI_Comm *made), (comm, group, tag, made),
-     begin_call(function, "left"); end_call();, if (result == MPI_SUCCESS) add_comm(*made, comm_of(comm), tag < 0 ? 0 : tag);)
+/* It is told at once what the communicator is called, though it may be used only behind the wait. */
+#define MAKES_LATER(name, params, args)                                                                   \
+    WRAP(name, params, args, tell(function, #name, comm, request, 0);, if (result == MPI_SUCCESS) {       \
+        add_twin(*made, comm_of(comm));                                                                   \
+        add_request(request, keep);                                                                       \
+    })
 
-WRAP(Comm_free, (MPI_Comm * comm), (comm), begin_call(function, "left"); end_call(); forget_comm(*comm);, )
+MAKES_LATER(Comm_idup, (MPI_Comm comm, MPI_Comm *made, MPI_Request *request), (comm, made, request))
+#ifdef MPI_4
+MAKES_LATER(Comm_idup_with_info, (MPI_Comm comm, MPI_Info info, MPI_Comm *made, MPI_Request *request), (comm, info, made, request))
+#endif
+
+/* Of these only the new communicator's members are known to know one another, so it is named by them. */
+#define ONLY_NAMED(operation) begin_call(function, operation); end_call();
+
+static void add_group(int result, const MPI_Comm *made, const struct comm *parent, const char *word) {
+    char origin[64];
+    snprintf(origin, sizeof origin, "group %d %s", parent->inter ? 0 : parent->id, word);
+    if (result == MPI_SUCCESS) add_comm(*made, origin);
+}
+
+/* Only the group's members call it, so it is none of the parent's collectives, and the parent's members don't count it. */
+WRAP(Comm_create_group, (MPI_Comm comm, MPI_Group group, int tag, MPI_Comm *made), (comm, group, tag, made), ONLY_NAMED("left"),
+     char word[16]; snprintf(word, sizeof word, "%d", tag < 0 ? 0 : tag); add_group(result, made, comm_of(comm), word);)
+WRAP(Intercomm_merge, (MPI_Comm comm, int high, MPI_Comm *made), (comm, high, made), ONLY_NAMED("other"),
+     add_group(result, made, comm_of(MPI_COMM_WORLD), "merge");)
+#ifdef MPI_4
+WRAP(Comm_create_from_group, (MPI_Group group, const char *tag, MPI_Info info, MPI_Errhandler handler, MPI_Comm *made),
+     (group, tag, info, handler, made), ONLY_NAMED("other"), add_group(result, made, comm_of(MPI_COMM_WORLD), "from");)
+#endif
+
+WRAP(Comm_free, (MPI_Comm * comm), (comm), ONLY_NAMED("left") if (comm) forget_comm(*comm);, )
+
+/* Told also where nothing else is, since maps tell it. */
+static void tell_name(const struct comm *comm, const char *name) {
+    if (comm->id < 0) return;
+    new_line();
+    put("name %d ", comm->id);
+    for (const char *c = name; *c; c++) put("%c", *c < ' ' || *c > '~' ? '?' : *c);
+    put("\n");
+    write_line();
+}
+
+WRAP(Comm_set_name, (MPI_Comm comm, const char *name), (comm, name), , if (result == MPI_SUCCESS) tell_name(comm_of(comm), name);)
 
 /* ---- the beginning, the end, and marks ---- */
 
@@ -260,8 +296,8 @@ EXPORTED int MPI_Init_thread(int *argc, char ***argv, int required, int *provide
 }
 EXPORTED int PMPI_Init_thread(int *argc, char ***argv, int required, int *provided) __attribute__((alias("MPI_Init_thread")));
 
-WRAP(Finalize, (void), (), begin_call(function, "end"); end_call(); end_recording();, )
-WRAP(Abort, (MPI_Comm comm, int code), (comm, code), begin_call(function, "abort"); end_call(); end_recording();, )
+WRAP(Finalize, (void), (), end_recording(function, "end");, )
+WRAP(Abort, (MPI_Comm comm, int code), (comm, code), end_recording(function, "abort");, )
 
 EXPORTED int MPI_Pcontrol(const int level, ...) {
     if (enter()) {

@@ -9,6 +9,10 @@
 #define NOBODY (-2)  /* MPI_PROC_NULL */
 #define WRONG (-3)   /* not known */
 
+/* What became of a call that returned an error. */
+#define NOT_BEGUN 1
+#define NOT_KNOWN 2
+
 /* ---- recordings ---- */
 
 enum operation {
@@ -17,25 +21,31 @@ enum operation {
 };
 
 struct call {
-    enum operation op;
-    const char *function;
-    char mode;               /* of a send: t, s, b or r */
-    int id, of;              /* the request or message that it makes; the message that it receives */
-    int comm;                /* the rank's own number of the communicator */
-    int peer, tag, peer2, tag2;
-    long bytes, bytes2;
+    const char *function, *kind;  /* of a collective its kind */
+    const char *wrong;       /* what is told of an argument that is none, or of an error that the call returned; NULL */
     int *list, count;        /* the requests of a wait; where a collective takes something from */
     int *parts, part_count;  /* of a nonblocking collective: the receives that stand for it */
-    const char *kind;        /* of a collective */
-    int root;
-    int *sites, site_count;
-    int found, found_tag;    /* what a wildcard found, or WRONG */
+    struct stack *sites;
     struct instance *instance;
-    int phase;
-    int unwaited;            /* a start: its request is freed, or open at the end */
-    int freed;
-    int dropped;             /* it has no line */
+    long bytes;
+    int id, of;              /* the request or message that it makes; the message that it receives */
+    int comm;                /* the rank's own number of the communicator, or WRONG */
+    int peer, tag, peer2, tag2, root;
+    int found, found_tag;    /* what a wildcard found, or WRONG */
     int message;             /* a probe and the receive behind it that are written as a matched probe and its receive */
+    int phase;
+    unsigned char op, mode;  /* enum operation; of a send t, s, b or r */
+    unsigned char asked;     /* whether the program took the status of what a wildcard found */
+    unsigned char error;     /* it returned one: NOT_BEGUN or NOT_KNOWN */
+    unsigned char unwaited;  /* a start: its request is freed, or open at the end */
+    unsigned char freed;
+    unsigned char dropped;   /* it has no line */
+};
+
+/* Call sites, from the inside out. */
+struct stack {
+    const char *place, *callers;  /* in words, once they are asked for */
+    int count, sites[];
 };
 
 struct site {
@@ -44,12 +54,21 @@ struct site {
     unsigned long offset;
 };
 
+/* A communicator as all of its members have it; siblings have one name, and no member in common. */
+struct group {
+    const char *name, *given;  /* by the program, or NULL */
+    int size, lowest, highest;
+    int *members, *places;     /* the number in it of each rank from the lowest to the highest, or -1 */
+    struct instance **instances;
+    int instance_count;
+    int told;                /* in the map that is made: it has a line there */
+};
+
+/* A rank's communicator. */
 struct comm {
-    char *name;              /* the same in all ranks that belong to it, and in its siblings */
-    int inter, size;
-    int *members;
+    struct group *group;     /* NULL: an intercommunicator */
+    const char *base;        /* of one that is named by its members: without the count of those of the same members */
     int collectives;         /* how many of its calls were seen so far */
-    int children;
 };
 
 struct rank {
@@ -59,26 +78,31 @@ struct rank {
     int comm_count;
     struct site *sites;
     int site_count;
-    int ended, aborted, cut, threads, moved, failed, marks, most_request;
+    int *starts, most_request;  /* the call that made each request or message, from 1 on; 0: none */
+    int ended, aborted, cut, threads, moved, marks;
+    char inside;                /* where it was at the end: i inside of a call, b behind one, 0 not known */
 };
 
 /* One collective call of all members of a communicator. */
 struct instance {
-    char *name;              /* the communicator and its lowest rank */
+    struct group *group;
     int number;              /* among those of the communicator */
-    const char *kind;
-    int nonblocking, root, size, *members, arrived;
+    const char *kind, *function;  /* the function as the first member called it */
+    int nonblocking, root, arrived;
     struct call **calls;     /* of each member, or NULL */
+    int usual, teller, form, *takers, *takers_of;  /* see forms.c */
     int tag;                 /* all of its messages have one of their own */
     int whole;               /* all ranks of the program belong to it */
+    int passed;              /* of how many members the call stands before the cut that is looked at */
     int cut;                 /* the phases are cut here */
 };
 
 extern struct rank *ranks;
 extern int rank_count;
 extern char *library;
-extern struct instance **instances;
 extern int instance_count;
+extern struct group **groups;
+extern int group_count;
 
 /* ---- lines ---- */
 
@@ -89,26 +113,29 @@ struct line {
     enum word word;
     int name, of;
     int peer, tag, peer2, tag2;
-    const char *comm;        /* NULL: the tag is one that all ranks' texts have for one message */
+    const char *comm;        /* its name; NULL: the tag is one that all ranks' texts have for one message */
     int *list, count;
     struct call *call;
     const char *remark;
+    unsigned char issued, done, received;  /* where the ranks stand at the end: see ends.c */
 };
 
 struct lines {
     struct line *at;
     int count, room;
+    int added;               /* how many of the last ones were added */
 };
 
 extern struct lines *lines;  /* of each rank */
 
 /* ---- texts ---- */
 
-/* What is written as numbers of the text's own: the k-th of these has the number k. */
+/* Texts and numbers that get numbers of the text's own, from 0 on, in the order in which they come. */
 struct numbers {
-    const void **keys;
-    long *numbers;
+    size_t *keys;
+    int *places;             /* a hash table of indices + 1 */
     int count;
+    size_t room;
 };
 
 struct text {
@@ -118,10 +145,21 @@ struct text {
     int plain;               /* tags as they are, and a map */
     struct numbers comms, tags;
     int collective_count;
+    unsigned char *used_tags;  /* of those that need no other number */
+    int *other_tags, other_count;  /* the number of each tag that needs one */
+    int free_tag;            /* no number from this on is free */
+    long asked;              /* wildcards that may find several ranks, and whose status the program took */
+    const struct call *first_asked;
+    int asked_rank;
 };
+
+/* How the run ended, as the launcher saw it: with an exit status from 0 on, or */
+#define RUN_UNKNOWN (-1)
+#define RUN_TIME (-2)   /* it was ended, by --time or by a signal to the launcher */
 
 struct options {
     const char *policy;
+    int run;
     int most;                /* each collective holds all of its ranks until all have come */
     int this_run;            /* the path that the run took is taken */
     int free_tests;          /* tests of sends alone are left out */
@@ -131,6 +169,7 @@ struct options {
 extern struct options options;
 
 /* notes.c */
+const char *same(const char *text);  /* one place for each text */
 extern char **notes;
 extern int note_count;
 void *room(void *old, size_t bytes);
@@ -143,28 +182,51 @@ _Noreturn void fail(int status, const char *format, ...) __attribute__((format(p
 void read_recordings(const char *directory);
 void find_places(void);
 const char *place_of(const struct rank *rank, const struct call *call);
-void put_place(FILE *file, const struct rank *rank, const struct call *call);
-void put_callers(FILE *file, const struct rank *rank, const struct call *call);
+const char *words_of(const struct rank *rank, const struct call *call);    /* the place, and in which function */
+const char *callers_of(const struct rank *rank, const struct call *call);  /* each behind ` < ` */
 void put_files(FILE *file);
 
-/* refusals.c, starts.c */
+/* groups.c */
+int place_in(const struct group *group, int rank);  /* the number of a rank in it, or -1 */
+struct group *group_of(const struct rank *rank, const struct call *call);
+struct group *group_named(const char *name, int rank, int size, int *members, const char **fault);
+
+/* polls.c: waits and probes that were polled for, or taken one by one */
+void settle_polls(int rank);
+
+/* refusals.c */
+int tells_sends_alone(const struct rank *rank, const struct call *call);
 void look_for_refusals(void);
 void tell_refusals(void);  /* ends the program where something is refused */
+
+/* starts.c, paths.c */
 void settle_starts(int rank);
 void join_probes(int rank);
+void leave_out_unmatched(void);
+void warn_of_paths(int rank);
 
 /* forms.c */
-void gather_instances(void);
-int is_full(const struct instance *instance);  /* nobody leaves before all have come */
+void gather_instances(void);  /* ends the program where calls don't fit each other */
+int is_full(struct instance *instance);  /* nobody leaves before all have come */
 void add_form(int rank, struct call *call);
 
+/* ends.c: how the run ended, and where each rank stood then */
+void look_at_ends(void);  /* ends the program where the run broke off */
+void find_end(void);
+void end_at_cut(void);
+void put_end(FILE *map, int phase);
+void tell_end(void);  /* on standard output */
+int status_of_end(void);
+
 /* phases.c: how many phases there are; what stands behind the last cut is left out */
+extern int phase_count;
 int find_cuts(void);
 void leave_out_the_rest(int phase);
 
 /* lines.c: requests and handles are named by numbers below `names_of` */
 void start_lines(void);
 void add_lines(int rank);
+size_t hash_of_message(int from, int to, int tag, const char *comm);
 struct line *add_line(int rank, enum word word, struct call *call);
 int fresh_part(int rank);
 int names_of(int rank);

@@ -27,7 +27,7 @@ static void find_lines(int count) {
         for (int r = 0; r < rank_count; r++) {
             int end = starts[r];
             while (end < all_lines[r].count && (all_lines[r].at[end].call->phase <= p || p == count - 1)) end++;
-            lines_of_phases[p * rank_count + r] = (struct part){starts[r], end - starts[r]};
+            lines_of_phases[(size_t)p * (size_t)rank_count + (size_t)r] = (struct part){starts[r], end - starts[r]};
             starts[r] = end;
         }
     free(starts);
@@ -35,8 +35,8 @@ static void find_lines(int count) {
 
 static void take_phase(int phase) {
     for (int r = 0; r < rank_count; r++) {
-        struct part part = lines_of_phases[phase * rank_count + r];
-        lines[r] = (struct lines){all_lines[r].at + part.from, part.count, 0};
+        struct part part = lines_of_phases[(size_t)phase * (size_t)rank_count + (size_t)r];
+        lines[r] = (struct lines){.at = all_lines[r].at + part.from, .count = part.count};
     }
 }
 

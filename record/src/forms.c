@@ -4,53 +4,24 @@
 #include <stdlib.h>
 #include <string.h>
 
-struct instance **instances;
 int instance_count;
 
-static struct instance **table;
-static size_t table_room;
-
-static size_t place(const char *name, int number) {
-    size_t hash = (size_t)number * 0x9E3779B97F4A7C15u;
-    for (const char *c = name; *c; c++) hash = hash * 31 + (unsigned char)*c;
-    hash ^= hash >> 29;
-    size_t at = hash % table_room;
-    while (table[at] && (table[at]->number != number || strcmp(table[at]->name, name))) at = (at + 1) % table_room;
-    return at;
-}
-
-static struct instance *instance_of(const struct comm *comm, const struct call *call, int number) {
-    int lowest = comm->members[0];
-    for (int i = 1; i < comm->size; i++)
-        if (comm->members[i] < lowest) lowest = comm->members[i];
-    char *name = room(NULL, strlen(comm->name) + 16);
-    sprintf(name, "%s@%d", comm->name, lowest);
-    if ((size_t)instance_count * 2 >= table_room) {
-        table_room = table_room * 2 + 1024;
-        table = room(table, table_room * sizeof *table);
-        memset(table, 0, table_room * sizeof *table);
-        for (int i = 0; i < instance_count; i++) table[place(instances[i]->name, instances[i]->number)] = instances[i];
-    }
-    size_t at = place(name, number);
-    if (!table[at]) {
-        struct instance *made = zeros(1, sizeof *made);
-        made->name = name;
-        made->number = number;
-        made->kind = call->kind;
-        made->nonblocking = call->op == OP_ICOLL;
-        made->root = call->root;
-        made->size = comm->size;
-        made->members = comm->members;
-        made->calls = zeros((size_t)comm->size, sizeof *made->calls);
-        made->tag = instance_count;
-        made->whole = comm->size == rank_count;
-        if (!(instance_count & (instance_count - 1)))
-            instances = room(instances, sizeof *instances * (size_t)(instance_count ? instance_count * 2 : 1));
-        instances[instance_count++] = made;
-        table[at] = made;
-    } else
-        free(name);
-    return table[at];
+/* The next instance of a communicator, or the one that another member has made already. */
+static struct instance *instance_of(struct group *group, const struct call *call, int number) {
+    if (number < group->instance_count) return group->instances[number];
+    struct instance *made = zeros(1, sizeof *made);
+    made->group = group;
+    made->number = number;
+    made->kind = call->kind;
+    made->function = call->function;
+    made->nonblocking = call->op == OP_ICOLL;
+    made->root = call->root;
+    made->calls = zeros((size_t)group->size, sizeof *made->calls);
+    made->tag = instance_count++;
+    made->whole = group->size == rank_count;
+    if (!(number & (number - 1))) group->instances = room(group->instances, sizeof *group->instances * (size_t)(number ? number * 2 : 1));
+    group->instances[group->instance_count++] = made;
+    return made;
 }
 
 struct root_words {
@@ -63,92 +34,186 @@ static struct root_words root_words(int root) {
     return words;
 }
 
-static _Noreturn void tell_mismatch(const struct comm *comm, const struct instance *instance, int rank, const struct call *call) {
+/* The first member whose call is there, but for this one. */
+static int first_member(const struct instance *instance, const struct call *but) {
     int first = 0;
-    while (!instance->calls[first] || instance->calls[first] == call) first++;
+    while (!instance->calls[first] || instance->calls[first] == but) first++;
+    return first;
+}
+
+static _Noreturn void tell_mismatch(const struct instance *instance, int rank, const struct call *call) {
+    int first = first_member(instance, call), other_rank = instance->group->members[first];
     const struct call *other = instance->calls[first];
-    int other_rank = instance->members[first];
-    fail(3, "collective mismatch: call %d on communicator %s is %s%s in rank %d (%s), and %s%s in rank %d (%s)", instance->number + 1, comm->name,
-         other->function, root_words(instance->root).text, other_rank, place_of(ranks + other_rank, other), call->function,
+    fail(1, "collective mismatch: call %d on communicator %s is %s%s in rank %d (%s), and %s%s in rank %d (%s)", instance->number + 1,
+         instance->group->name, other->function, root_words(instance->root).text, other_rank, place_of(ranks + other_rank, other), call->function,
          root_words(call->root).text, rank, place_of(ranks + rank, call));
+}
+
+/* A member that ended, and of which all calls were recorded, never comes. */
+static void look_for_absent(const struct instance *instance) {
+    for (int i = 0; i < instance->group->size && instance->arrived < instance->group->size; i++) {
+        int absent = instance->group->members[i], first = first_member(instance, NULL), other = instance->group->members[first];
+        if (instance->calls[i] || !ranks[absent].ended || ranks[absent].cut || ranks[absent].marks || ranks[other].marks) continue;
+        fail(1, "collective mismatch: call %d on communicator %s is %s%s in rank %d (%s), and rank %d ended without it", instance->number + 1,
+             instance->group->name, instance->calls[first]->function, root_words(instance->root).text, other,
+             place_of(ranks + other, instance->calls[first]), absent);
+    }
+}
+
+static void gather_call(int r, struct call *call) {
+    struct comm *comm = ranks[r].comms + call->comm;
+    struct instance *instance = instance_of(comm->group, call, comm->collectives++);
+    call->instance = instance;
+    instance->calls[place_in(comm->group, r)] = call;
+    instance->arrived++;
+    if (instance->kind != call->kind || instance->nonblocking != (call->op == OP_ICOLL) || instance->root != call->root)
+        tell_mismatch(instance, r, call);
 }
 
 void gather_instances(void) {
     for (int r = 0; r < rank_count; r++)
         for (int i = 0; i < ranks[r].count; i++) {
             struct call *call = ranks[r].calls + i;
-            if ((call->op != OP_COLL && call->op != OP_ICOLL) || call->comm < 0) continue;
-            struct comm *comm = ranks[r].comms + call->comm;
-            struct instance *instance = instance_of(comm, call, comm->collectives++);
-            call->instance = instance;
-            int mine = 0;
-            while (mine < instance->size && instance->members[mine] != r) mine++;
-            if (mine == instance->size) fail(5, "rank %d is no member of a communicator that it uses", r);
-            instance->calls[mine] = call;
-            instance->arrived++;
-            if (strcmp(instance->kind, call->kind) || instance->nonblocking != (call->op == OP_ICOLL) || instance->root != call->root)
-                tell_mismatch(comm, instance, r, call);
+            int collective = (call->op == OP_COLL || call->op == OP_ICOLL) && !call->dropped && !call->wrong;
+            if (collective && group_of(ranks + r, call)) gather_call(r, call);
         }
+    for (int g = 0; g < group_count; g++)
+        for (int k = 0; k < groups[g]->instance_count; k++) look_for_absent(groups[g]->instances[k]);
 }
 
 /* What MPI guarantees at least: which member can't leave before which others have come. */
-enum form { F_NONE, F_ALL, F_FROM_ROOT, F_TO_ROOT, F_CHAIN, F_PAIRS };
+enum form { F_UNKNOWN, F_NONE, F_ALL, F_FROM_ROOT, F_TO_ROOT, F_CHAIN, F_PAIRS };
+
+/* Of collectives without a root whose ranks don't have something from each: by whom that is told. */
+enum teller { T_TAKER, T_GIVER, T_SOURCES };
+
+static const struct {
+    const char *name;
+    enum form form;
+    enum teller teller;
+} kinds[] = {{"Bcast", F_FROM_ROOT, T_TAKER},       {"Scatter", F_FROM_ROOT, T_TAKER},   {"Scatterv", F_FROM_ROOT, T_TAKER},
+             {"Reduce", F_TO_ROOT, T_TAKER},        {"Gather", F_TO_ROOT, T_TAKER},      {"Gatherv", F_TO_ROOT, T_TAKER},
+             {"Scan", F_CHAIN, T_TAKER},            {"Exscan", F_CHAIN, T_TAKER},        {"Allgather", F_PAIRS, T_GIVER},
+             {"Allgatherv", F_PAIRS, T_GIVER},      {"Alltoallv", F_PAIRS, T_SOURCES},   {"Alltoallw", F_PAIRS, T_SOURCES},
+             {"Neighbor_allgather", F_PAIRS, T_SOURCES}, {"Neighbor_allgatherv", F_PAIRS, T_SOURCES}, {"Neighbor_alltoall", F_PAIRS, T_SOURCES},
+             {"Neighbor_alltoallv", F_PAIRS, T_SOURCES}, {"Neighbor_alltoallw", F_PAIRS, T_SOURCES}};
+static const size_t kind_count = sizeof kinds / sizeof *kinds;
+
+static void find_kind(struct instance *instance) {
+    size_t k = 0;
+    while (k < kind_count && strcmp(kinds[k].name, instance->kind)) k++;
+    instance->usual = k < kind_count ? kinds[k].form : F_PAIRS;
+    instance->teller = k < kind_count ? kinds[k].teller : T_TAKER;
+}
 
 /* A member that never came is taken as one that has something to give. */
 static long bytes_at(const struct instance *instance, int i) { return instance->calls[i] ? instance->calls[i]->bytes : 1; }
 
-static int is_kind(const struct instance *instance, const char *kinds) {
-    size_t length = strlen(instance->kind);
-    for (const char *at = kinds; (at = strstr(at, instance->kind)); at += length)
-        if ((at == kinds || at[-1] == ' ') && (!at[length] || at[length] == ' ')) return 1;
-    return 0;
-}
-
-static int by_giver(const struct instance *instance) { return is_kind(instance, "Allgather Allgatherv"); }
-static int by_taker(const struct instance *instance) {
-    return is_kind(instance, "Reduce_scatter Comm_split Comm_split_type Dist_graph_create");
-}
-
-/* Whether member i takes something from member j. */
-static int needs(const struct instance *instance, int i, int j) {
-    if (options.most) return 1;
-    if (by_giver(instance)) return bytes_at(instance, j) > 0;
-    if (by_taker(instance)) return bytes_at(instance, i) > 0;
-    if (is_kind(instance, "Alltoallv Alltoallw Neighbor_allgather Neighbor_allgatherv Neighbor_alltoall Neighbor_alltoallv Neighbor_alltoallw")) {
-        const struct call *call = instance->calls[i];
-        for (int k = 0; call && k < call->count; k++)
-            if (call->list[k] == instance->members[j]) return 1;
-        return 0;
+/* Where calls name their sources: each call's list gets them once each, without its own, in the order of the members, and takers_of[j]
+   is where in `takers` the members begin that take something from member j. Gives how many pairs there are. */
+static int find_pairs(struct instance *instance) {
+    const struct group *group = instance->group;
+    int size = group->size, pairs = 0, *from = zeros((size_t)size + 1, sizeof(int)), *last = zeros((size_t)size, sizeof(int));
+    for (int i = 0; i < size; i++) {
+        struct call *call = instance->calls[i];
+        int kept = 0;
+        for (int k = 0; call && k < call->count; k++) {
+            int j = place_in(group, call->list[k]);
+            if (j == i || last[j] == i + 1) continue;
+            last[j] = i + 1;
+            call->list[kept++] = call->list[k];
+            from[j + 1]++;
+        }
+        if (call) call->count = kept;
+        pairs += kept;
     }
-    if (is_kind(instance, "Bcast Scatter Scatterv"))
-        return instance->members[j] == instance->root && bytes_at(instance, i) > 0;
-    if (is_kind(instance, "Reduce Gather Gatherv"))
-        return instance->members[i] == instance->root && bytes_at(instance, j) > 0;
-    if (is_kind(instance, "Scan Exscan")) return j < i && bytes_at(instance, i) > 0;
-    return bytes_at(instance, i) > 0;
+    for (int j = 0; j < size; j++) from[j + 1] += from[j], last[j] = from[j];
+    instance->takers_of = from;
+    instance->takers = room(NULL, sizeof(int) * (size_t)pairs);
+    for (int i = 0; i < size; i++) {
+        struct call *call = instance->calls[i];
+        for (int k = 0; call && k < call->count; k++) instance->takers[last[place_in(group, call->list[k])]++] = i;
+        if (call) call->count = 0;
+    }
+    for (int j = 0; j < size; j++)
+        for (int k = from[j]; k < from[j + 1]; k++) {
+            struct call *taker = instance->calls[instance->takers[k]];
+            taker->list[taker->count++] = group->members[j];
+        }
+    free(last);
+    return pairs;
 }
 
-static enum form form_of(const struct instance *instance) {
-    if (instance->size < 2) return F_NONE;
-    if (options.most) return F_ALL;
-    if (is_kind(instance, "Bcast Scatter Scatterv")) return F_FROM_ROOT;
-    if (is_kind(instance, "Reduce Gather Gatherv")) return F_TO_ROOT;
-    if (is_kind(instance, "Scan Exscan")) return bytes_at(instance, 0) > 0 ? F_CHAIN : F_NONE;
-    int all = 1, none = 1;
-    for (int i = 0; i < instance->size; i++)
-        for (int j = 0; j < instance->size; j++)
-            if (i != j) {
-                if (needs(instance, i, j))
-                    none = 0;
-                else
-                    all = 0;
-                if (!all && !none) return F_PAIRS;
-            }
-    return all ? F_ALL : F_NONE;
+static enum form form_of_pairs(struct instance *instance) {
+    int size = instance->group->size, some = 0;
+    if (instance->teller == T_SOURCES) {
+        int pairs = find_pairs(instance);
+        return !pairs ? F_NONE : pairs == size * (size - 1) ? F_ALL : F_PAIRS;
+    }
+    for (int i = 0; i < size; i++) some += bytes_at(instance, i) > 0;
+    return !some ? F_NONE : some == size ? F_ALL : F_PAIRS;
 }
 
-int is_full(const struct instance *instance) {
-    return instance->arrived == instance->size && !instance->nonblocking && (form_of(instance) == F_ALL || instance->size == 1);
+static enum form form_of(struct instance *instance) {
+    if (instance->form != F_UNKNOWN) return (enum form)instance->form;
+    find_kind(instance);
+    enum form form = (enum form)instance->usual;
+    if (instance->group->size < 2)
+        form = F_NONE;
+    else if (options.most)
+        form = F_ALL;
+    else if (form == F_CHAIN)
+        form = bytes_at(instance, 0) > 0 ? F_CHAIN : F_NONE;
+    else if (form == F_PAIRS)
+        form = form_of_pairs(instance);
+    instance->form = (int)form;
+    return form;
+}
+
+int is_full(struct instance *instance) {
+    return instance->arrived == instance->group->size && !instance->nonblocking && (form_of(instance) == F_ALL || instance->group->size == 1);
+}
+
+static int with_bytes(const struct instance *instance, int from, int to, int but, int *found) {
+    int count = 0;
+    for (int i = from; i < to; i++)
+        if (i != but && bytes_at(instance, i) > 0) found[count++] = instance->group->members[i];
+    return count;
+}
+
+static int all_but(const struct instance *instance, int from, int to, int but, int *found) {
+    int count = 0;
+    for (int i = from; i < to; i++)
+        if (i != but) found[count++] = instance->group->members[i];
+    return count;
+}
+
+static int named(const struct instance *instance, int me, int sources, int *found) {
+    const struct call *call = instance->calls[me];
+    int from = instance->takers_of[me], count = sources ? call->count : instance->takers_of[me + 1] - from;
+    for (int k = 0; k < count; k++) found[k] = sources ? call->list[k] : instance->group->members[instance->takers[from + k]];
+    return count;
+}
+
+/* The ranks that member `me` takes something from, or that take something from it. */
+static int others(const struct instance *instance, int me, int sources, int *found) {
+    const struct group *group = instance->group;
+    int size = group->size, has = bytes_at(instance, me) > 0, is_root = group->members[me] == instance->root;
+    if (options.most) return all_but(instance, 0, size, me, found);
+    switch (instance->usual) {
+    case F_FROM_ROOT:
+    case F_TO_ROOT:
+        if (is_root) return (instance->usual == F_TO_ROOT) == sources ? with_bytes(instance, 0, size, me, found) : 0;
+        found[0] = instance->root;
+        return (instance->usual == F_FROM_ROOT) == sources && has;
+    case F_CHAIN:
+        if (!sources) return with_bytes(instance, me + 1, size, me, found);
+        return has ? all_but(instance, 0, me, me, found) : 0;
+    default:
+        if (instance->teller == T_SOURCES) return named(instance, me, sources, found);
+        if ((instance->teller == T_TAKER) != sources) return with_bytes(instance, 0, size, me, found);
+        return has ? all_but(instance, 0, size, me, found) : 0;
+    }
 }
 
 static void message(int rank, enum word word, struct call *call, int peer) {
@@ -157,18 +222,22 @@ static void message(int rank, enum word word, struct call *call, int peer) {
     line->tag = call->instance->tag;
 }
 
-static void nonblocking_form(int rank, struct call *call, int me) {
-    const struct instance *instance = call->instance;
-    const int *m = instance->members;
-    call->parts = room(NULL, sizeof(int) * (size_t)instance->size);
-    if (form_of(instance) != F_NONE) {
-        for (int i = 0; i < instance->size; i++)
-            if (i != me && needs(instance, i, me)) message(rank, W_BSEND, call, m[i]);
-        for (int j = 0; j < instance->size; j++)
-            if (j != me && needs(instance, me, j)) {
-                message(rank, W_IRECV, call, m[j]);
-                lines[rank].at[lines[rank].count - 1].name = call->parts[call->part_count++] = fresh_part(rank);
-            }
+/* A rank tells those that take something from it, and waits for those from whom it takes something. */
+static void exchange(int rank, struct call *call, int me, enum word send) {
+    int *found = room(NULL, sizeof(int) * (size_t)call->instance->group->size);
+    for (int k = 0, count = others(call->instance, me, 0, found); k < count; k++) message(rank, send, call, found[k]);
+    for (int k = 0, count = others(call->instance, me, 1, found); k < count; k++) message(rank, W_RECV, call, found[k]);
+    free(found);
+}
+
+static void start_exchange(int rank, struct call *call, int me) {
+    int *found = room(NULL, sizeof(int) * (size_t)call->instance->group->size);
+    for (int k = 0, count = others(call->instance, me, 0, found); k < count; k++) message(rank, W_BSEND, call, found[k]);
+    call->part_count = others(call->instance, me, 1, found);
+    call->parts = found;
+    for (int k = 0; k < call->part_count; k++) {
+        message(rank, W_IRECV, call, found[k]);
+        lines[rank].at[lines[rank].count - 1].name = found[k] = fresh_part(rank);
     }
 }
 
@@ -176,7 +245,7 @@ static void nonblocking_form(int rank, struct call *call, int me) {
    receive are a meeting: each side knows then that the other one has come, and what that one knew. */
 static void all_form(int rank, struct call *call, int me) {
     const struct instance *instance = call->instance;
-    const int *m = instance->members, n = instance->size;
+    const int *m = instance->group->members, n = instance->group->size;
     if (n == 2) {
         message(rank, me ? W_RECV : W_SSEND, call, m[!me]);
         return;
@@ -204,57 +273,26 @@ static void all_form(int rank, struct call *call, int me) {
     }
 }
 
-/* From the root to each that gets something. */
-static void from_root_form(int rank, struct call *call) {
-    const struct instance *instance = call->instance;
-    if (rank != instance->root) {
-        if (call->bytes > 0) message(rank, W_RECV, call, instance->root);
-        return;
-    }
-    for (int i = 0; i < instance->size; i++)
-        if (instance->members[i] != rank && bytes_at(instance, i) > 0) message(rank, W_SEND, call, instance->members[i]);
-}
-
-/* From each that gives something to the root. */
-static void to_root_form(int rank, struct call *call) {
-    const struct instance *instance = call->instance;
-    if (rank != instance->root) {
-        if (call->bytes > 0) message(rank, W_SEND, call, instance->root);
-        return;
-    }
-    for (int i = 0; i < instance->size; i++)
-        if (instance->members[i] != rank && bytes_at(instance, i) > 0) message(rank, W_RECV, call, instance->members[i]);
-}
-
 static void chain_form(int rank, struct call *call, int me) {
-    const struct instance *instance = call->instance;
-    if (me) message(rank, W_RECV, call, instance->members[me - 1]);
-    if (me + 1 < instance->size) message(rank, W_SEND, call, instance->members[me + 1]);
-}
-
-/* Each tells those that need it, and then waits for those that it needs. */
-static void pairs_form(int rank, struct call *call, int me) {
-    const struct instance *instance = call->instance;
-    for (int i = 0; i < instance->size; i++)
-        if (i != me && needs(instance, i, me)) message(rank, W_BSEND, call, instance->members[i]);
-    for (int j = 0; j < instance->size; j++)
-        if (j != me && needs(instance, me, j)) message(rank, W_RECV, call, instance->members[j]);
+    const struct group *group = call->instance->group;
+    if (me) message(rank, W_RECV, call, group->members[me - 1]);
+    if (me + 1 < group->size) message(rank, W_SEND, call, group->members[me + 1]);
 }
 
 void add_form(int rank, struct call *call) {
-    const struct instance *instance = call->instance;
-    int me = 0;
-    while (instance->members[me] != rank) me++;
+    struct instance *instance = call->instance;
+    int me = place_in(instance->group, rank);
+    enum form form = form_of(instance);
     if (instance->nonblocking) {
-        nonblocking_form(rank, call, me);
+        if (form != F_NONE) start_exchange(rank, call, me);
         return;
     }
-    switch (form_of(instance)) {
-    case F_NONE: break;
+    switch (form) {
     case F_ALL: all_form(rank, call, me); break;
-    case F_FROM_ROOT: from_root_form(rank, call); break;
-    case F_TO_ROOT: to_root_form(rank, call); break;
+    case F_FROM_ROOT:
+    case F_TO_ROOT: exchange(rank, call, me, W_SEND); break;
     case F_CHAIN: chain_form(rank, call, me); break;
-    case F_PAIRS: pairs_form(rank, call, me); break;
+    case F_PAIRS: exchange(rank, call, me, W_BSEND); break;
+    default: break;
     }
 }

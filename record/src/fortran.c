@@ -1,12 +1,12 @@
 /* Where the program's requests stand, for Open MPI's Fortran bindings. They hand C handles of their own, and several sends that are
    complete at once have one handle; so these calls are told by the variable that Fortran's call names. The bindings of mpif.h and of
    the module `mpi` are called by the lower names, those of `mpi_f08` go through the upper ones. All arguments are addresses. */
+#include "calls.h"
+
 typedef long word;
 
-void *real_call(const char *name);
 extern _Thread_local const int *fortran_requests;
 
-#define EXPORTED __attribute__((visibility("default")))
 #define PARAMS word a, word b, word c, word d, word e, word f, word g, word h
 #define ARGS a, b, c, d, e, f, g, h
 

@@ -1,6 +1,7 @@
 /* The names of communicators, requests and messages of matched probes. */
 #include "recorder.h"
 
+#include <stdio.h>
 #include <stdlib.h>
 #include <string.h>
 
@@ -16,45 +17,75 @@ struct comm *comm_of(MPI_Comm handle) {
     return &unknown_comm;
 }
 
-/* `tag` counts where the members alone agreed on the communicator: then it is told by them and by the tag. */
-void add_comm(MPI_Comm handle, struct comm *parent, int tag) {
-    if (handle == MPI_COMM_NULL) return;
+static struct comm *new_comm(MPI_Comm handle, int size) {
     forget_comm(handle);  /* one of that name may have been freed inside of another call */
-    int inter = 0;
-    PMPI_Comm_test_inter(handle, &inter);
     struct comm *comm = room(NULL, sizeof *comm);
     memset(comm, 0, sizeof *comm);
     comm->handle = handle;
-    comm->inter = inter;
     comm->id = comm_names++;
-    PMPI_Comm_size(handle, &comm->size);
-    PMPI_Comm_rank(handle, &comm->rank);
-    comm->members = room(NULL, sizeof(int) * (size_t)(comm->size + 1));
-    if (!inter) {
-        MPI_Group group, world;
-        int *places = room(NULL, sizeof(int) * (size_t)(comm->size + 1));
-        for (int i = 0; i < comm->size; i++) places[i] = i;
-        PMPI_Comm_group(handle, &group);
-        PMPI_Comm_group(MPI_COMM_WORLD, &world);
-        PMPI_Group_translate_ranks(group, comm->size, places, world, comm->members);
-        PMPI_Group_free(&group);
-        PMPI_Group_free(&world);
-        free(places);
-    }
+    comm->size = size;
+    comm->members = room(NULL, sizeof(int) * (size_t)(size + 1));
     comms = room(comms, sizeof *comms * (size_t)(comm_count + 1));
     comms[comm_count++] = comm;
-    /* told also where nothing else is, since later calls name it */
+    return comm;
+}
+
+static void ask_members(struct comm *comm) {
+    MPI_Group group, world;
+    int *places = room(NULL, sizeof(int) * (size_t)(comm->size + 1));
+    for (int i = 0; i < comm->size; i++) places[i] = i;
+    PMPI_Comm_group(comm->handle, &group);
+    PMPI_Comm_group(MPI_COMM_WORLD, &world);
+    PMPI_Group_translate_ranks(group, comm->size, places, world, comm->members);
+    PMPI_Group_free(&group);
+    PMPI_Group_free(&world);
+    free(places);
+    for (int i = 0; i < comm->size; i++) comm->inter |= comm->members[i] < 0;
+}
+
+/* Told also where nothing else is, since later calls name it. */
+static void tell_comm(const struct comm *comm, const char *origin) {
     new_line();
-    if (!parent)
-        put("comm %d %s", comm->id, comm->id ? "self" : "world");
-    else if (tag < 0)
-        put("comm %d child %d %d", comm->id, parent->id, parent->children);
-    else
-        put("comm %d group %d %d", comm->id, parent->id, tag);
-    put(inter ? " inter" : " :");
-    for (int i = 0; i < comm->size && !inter; i++) put(" %d", comm->members[i]);
+    put("comm %d %s%s", comm->id, origin, comm->inter ? " inter" : " :");
+    for (int i = 0; i < comm->size && !comm->inter; i++) put(" %d", comm->members[i]);
     put("\n");
     write_line();
+}
+
+void add_comm(MPI_Comm handle, const char *origin) {
+    int size = 0, inter = 0;
+    if (handle == MPI_COMM_NULL) return;
+    PMPI_Comm_test_inter(handle, &inter);
+    PMPI_Comm_size(handle, &size);
+    struct comm *comm = new_comm(handle, size);
+    comm->inter = inter;
+    PMPI_Comm_rank(handle, &comm->rank);
+    if (!inter) ask_members(comm);
+    tell_comm(comm, origin);
+}
+
+/* What is made of a communicator without a name is named by its members. */
+static const char *origin_of_child(const struct comm *parent, char *text, size_t room) {
+    if (parent->inter) return "group 0 of";
+    snprintf(text, room, "child %d %d", parent->id, parent->children);
+    return text;
+}
+
+void add_child(MPI_Comm handle, struct comm *parent) {
+    char text[64];
+    parent->children++;
+    add_comm(handle, origin_of_child(parent, text, sizeof text));
+}
+
+void add_twin(MPI_Comm handle, struct comm *parent) {
+    char text[64];
+    parent->children++;
+    if (handle == MPI_COMM_NULL) return;
+    struct comm *comm = new_comm(handle, parent->inter ? 0 : parent->size);
+    comm->inter = parent->inter;
+    comm->rank = parent->rank;
+    if (!comm->inter) memcpy(comm->members, parent->members, sizeof(int) * (size_t)parent->size);
+    tell_comm(comm, origin_of_child(parent, text, sizeof text));
 }
 
 void forget_comm(MPI_Comm handle) {
@@ -96,68 +127,68 @@ static struct request *add(const MPI_Request *where, int id, char kind) {
     return request;
 }
 
-void add_request(const MPI_Request *where, int id) {
-    if (*where != MPI_REQUEST_NULL) add(where, id, 'o');
-}
+struct request *add_request(const MPI_Request *where, int id) { return *where == MPI_REQUEST_NULL ? NULL : add(where, id, 'o'); }
 
 struct request *add_persistent(const MPI_Request *where) { return add(where, NOTHING, 'p'); }
 
 /* Both libraries give one handle to several sends that are complete at once. Such requests are told apart by the variable that the
-   handle was stored in. Where it was moved since, or where Fortran's binding hides the variable, the oldest is taken, and that is
-   told. */
-static int place_of(MPI_Request handle, const void *where) {
-    int first = -1, exact = -1, several = 0, several_exact = 0;
+   handle was stored in. Where it was moved since, or where Fortran's binding hides the variable, the oldest is taken that the list
+   doesn't have yet, and that is told. */
+static struct request *find(MPI_Request handle, const void *where, long list) {
+    struct request *first = NULL, *exact = NULL;
+    int several = 0, several_exact = 0;
     for (int i = 0; i < request_count; i++) {
-        if (requests[i]->handle != handle) continue;
-        if (requests[i]->where == where) {
-            several_exact |= exact >= 0;
-            if (exact < 0) exact = i;
+        struct request *one = requests[i];
+        if (one->handle != handle || one->list == list) continue;
+        if (one->where == where) {
+            several_exact |= exact != NULL;
+            if (!exact) exact = one;
         }
-        several |= first >= 0;
-        if (first < 0) first = i;
+        several |= first != NULL;
+        if (!first) first = one;
     }
-    if (exact >= 0 ? several_exact : several) plain_line("moved");
-    return exact >= 0 ? exact : first;
+    if (exact ? several_exact : several) plain_line("moved");
+    if (!exact) exact = first;
+    if (exact) exact->list = list;
+    return exact;
 }
 
-struct request *request_of(const MPI_Request *handles, int i) {
-    int at = place_of(handles[i], variable(handles, i));
-    return at < 0 ? NULL : requests[at];
+struct request **requests_of(int count, const MPI_Request *handles) {
+    static _Thread_local struct request **found;
+    static struct request unknown = {.id = UNKNOWN};
+    static long lists;
+    lists++;
+    found = room(found, sizeof *found * (size_t)(count > 0 ? count : 1));
+    for (int i = 0; i < count; i++) {
+        found[i] = !handles || handles[i] == MPI_REQUEST_NULL ? NULL : find(handles[i], variable(handles, i), lists);
+        if (!found[i] && handles && handles[i] != MPI_REQUEST_NULL) found[i] = &unknown;
+    }
+    return found;
 }
 
-int name_of(const MPI_Request *handles, int i) {
-    if (handles[i] == MPI_REQUEST_NULL) return NOTHING;
-    struct request *request = request_of(handles, i);
-    return request ? request->id : UNKNOWN;
-}
+int name_of(const struct request *request) { return request ? request->id : NOTHING; }
 
-static void take_out(int i) {
-    free(requests[i]);
+static void take_out(struct request *request) {
+    int i = 0;
+    while (i < request_count && requests[i] != request) i++;
+    if (i == request_count) return;
+    free(request);
     memmove(requests + i, requests + i + 1, sizeof *requests * (size_t)(request_count - i - 1));
     request_count--;
 }
 
-int finish(const MPI_Request *handles, int i) { return finish_at(handles[i], handles, i); }
-
-int finish_at(MPI_Request handle, const MPI_Request *handles, int place) {
-    if (handle == MPI_REQUEST_NULL) return NOTHING;
-    int i = place_of(handle, variable(handles, place));
-    if (i < 0) return UNKNOWN;
-    int id = requests[i]->id;
-    if (requests[i]->kind == 'p') {
-        requests[i]->id = NOTHING;
-        requests[i]->active = 0;
-    } else
-        take_out(i);
+int finish(struct request *request) {
+    int id = name_of(request);
+    if (request && request->kind == 'p')
+        request->id = NOTHING;
+    else if (request)
+        take_out(request);
     return id;
 }
 
-int drop(const MPI_Request *where) {
-    if (*where == MPI_REQUEST_NULL) return NOTHING;
-    int i = place_of(*where, variable(where, 0));
-    if (i < 0) return UNKNOWN;
-    int id = requests[i]->id;
-    take_out(i);
+int drop(struct request *request) {
+    int id = name_of(request);
+    if (request) take_out(request);
     return id;
 }
 
@@ -176,7 +207,7 @@ int add_message(const MPI_Message *where, int id) {
 }
 
 int drop_message(const MPI_Message *where) {
-    if (*where == MPI_MESSAGE_NO_PROC) return NOTHING;
+    if (!where || *where == MPI_MESSAGE_NO_PROC) return NOTHING;
     for (int i = 0; i < message_count; i++)
         if (messages[i].handle == *where) {
             int id = messages[i].id;

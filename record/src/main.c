@@ -2,18 +2,19 @@
 
    usage: convert [OPTION ..] DIRECTORY NAME
    writes NAME.mpi and NAME.map, and with --phases NAME.1.mpi, NAME.1.map and so on; tells what it did on standard output.
-   Exit status: 0 written; 3 refused; 5 a file failed; 6 usage; 70 out of memory. */
+   Exit status: 0 written; 1 a fault that the recordings show, or the run hung; 2 written, of a run that was cut off; 3 refused; 5 a file
+   failed; 6 usage; 70 out of memory. */
 #include "convert.h"
 
 #include <stdio.h>
 #include <stdlib.h>
 #include <string.h>
 
-struct options options = {.policy = "any"};
+struct options options = {.policy = "any", .run = RUN_UNKNOWN};
 
 static _Noreturn void usage(void) {
     fprintf(stderr, "usage: convert [--policy any|none|all] [--collectives least|most] [--free-tests] [--this-run] [--leave-out] [--phases] "
-                    "[--small] DIRECTORY NAME\n");
+                    "[--small] [--run time|STATUS] DIRECTORY NAME\n");
     exit(6);
 }
 
@@ -33,6 +34,13 @@ static void take_waiting(const char *word) {
     options.most = !strcmp(word, "most");
 }
 
+/* How the run ended: its exit status, or `time` where it was ended from outside. */
+static void take_run(const char *word) {
+    char *end;
+    options.run = strcmp(word, "time") ? (int)strtol(word, &end, 10) : RUN_TIME;
+    if (options.run != RUN_TIME && (!*word || *end || options.run < 0)) usage();
+}
+
 /* Gives the place of the first word that is no option. */
 static int take_options(int count, char **words) {
     const struct {
@@ -50,53 +58,56 @@ static int take_options(int count, char **words) {
             take_policy(word_behind(&at, count, words));
         else if (!strcmp(words[at], "--collectives"))
             take_waiting(word_behind(&at, count, words));
+        else if (!strcmp(words[at], "--run"))
+            take_run(word_behind(&at, count, words));
         else
             usage();
     }
     return at;
 }
 
-/* Whether the recording of a rank ends with its program. */
-static void tell_end(int r) {
+/* What a recording can't tell, and calls that failed. */
+static void tell_rank(int r) {
     const struct rank *rank = ranks + r;
-    if (rank->aborted)
-        note("rank %d called MPI_Abort: where another rank waits at its end, that is no deadlock of the program", r);
-    else if (rank->cut)
-        note("the recording of rank %d was ended after the number of calls that was asked for", r);
-    else if (rank->marks)
-        note("rank %d was recorded between marks only", r);
-    else if (!rank->ended && rank->count)
-        note("rank %d did not end: its last call is %s in %s", r, rank->calls[rank->count - 1].function, place_of(rank, rank->calls + rank->count - 1));
-    else if (!rank->ended)
-        note("rank %d did not end, and made no call", r);
+    int failed = 0;
+    const struct call *first = NULL;
+    if (rank->marks) note("rank %d was recorded between marks only", r);
     if (rank->moved)
         note("rank %d: %d times one handle stood for several sends that were complete at once, and it couldn't be seen which one is meant; the "
              "oldest was taken",
              r, rank->moved);
-    if (rank->failed) note("rank %d: %d calls returned an error", r, rank->failed);
+    for (int i = 0; i < rank->count; i++)
+        if (rank->calls[i].error == NOT_BEGUN && !failed++) first = rank->calls + i;
+    if (failed)
+        note("rank %d: %d calls returned an error and are left out, since nothing was begun (first %s in %s: %s)", r, failed, first->function,
+             place_of(rank, first), first->wrong);
 }
 
-/* The first call that is left out. */
+/* The first call of each function that is left out. */
 static void tell_left_out(void) {
+    const char *told[100];
+    int count = 0;
     for (int r = 0; r < rank_count; r++)
         for (int i = 0; i < ranks[r].count; i++) {
             const struct call *call = ranks[r].calls + i;
+            int k = 0;
             if (call->op != OP_LEFT || !strcmp(call->function, "MPI_Comm_free")) continue;
+            while (k < count && told[k] != call->function) k++;
+            if (k < count || count == 100) continue;
+            told[count++] = call->function;
             note("left out: %s in %s", call->function, place_of(ranks + r, call));
-            return;
         }
 }
 
-/* Gives how many phases there are, where they are wanted, and otherwise 1. */
-static int cut_phases(void) {
+static void cut_phases(void) {
     int cut = 0;
     for (int r = 0; r < rank_count; r++) cut |= ranks[r].cut;
-    int phases = options.phases || cut ? find_cuts() : 1;
-    if (cut && phases > 1)
-        leave_out_the_rest(--phases);
-    else if (cut)
+    if (options.phases || cut) phase_count = find_cuts();
+    if (cut && phase_count > 1) {
+        leave_out_the_rest(--phase_count);
+        end_at_cut();
+    } else if (cut)
         note("the recordings end anywhere, and there is no cut: a deadlock in which a rank waits for a later call is none of the program");
-    return phases;
 }
 
 int main(int count, char **words) {
@@ -106,20 +117,23 @@ int main(int count, char **words) {
     read_recordings(words[at]);
     find_places();
     gather_instances();
+    look_at_ends();
     start_lines();
     look_for_refusals();
     tell_refusals();
     for (int r = 0; r < rank_count; r++) {
         settle_starts(r);
         join_probes(r);
-        tell_end(r);
+        warn_of_paths(r);
+        tell_rank(r);
     }
+    leave_out_unmatched();
     tell_left_out();
-    int phases = cut_phases();
+    cut_phases();
     for (int r = 0; r < rank_count; r++) add_lines(r);
+    find_end();
     if (options.small) make_small();
-    for (int i = 0; i < note_count; i++) printf("note: %s\n", notes[i]);
     write_text(name, -1, "");
-    if (options.phases) write_phases(name, phases);
-    return 0;
+    if (options.phases) write_phases(name, phase_count);
+    return status_of_end();
 }

@@ -15,7 +15,7 @@ struct side {
 };
 
 static void pass(struct side *side, const struct call *call) {
-    if (call->message && (call->op == OP_PROBE || call->op == OP_IPROBE)) {
+    if (call->message && call->op == OP_PROBE) {
         side->balance--;
         side->open++;
         return;
@@ -37,7 +37,6 @@ static void pass(struct side *side, const struct call *call) {
         side->open++;
         break;
     case OP_MPROBE:
-    case OP_IMPROBE:
         if (call->peer == NOBODY) break;
         side->balance--;
         side->open++;
@@ -52,9 +51,17 @@ static void pass(struct side *side, const struct call *call) {
     }
 }
 
-/* Of each rank, where the phase that is looked at begins. */
+int phase_count = 1;
+
+/* Of each rank, where the phase that is looked at begins; and how many collectives have calls on both sides of the place looked at. */
 static struct side *sides;
 static int *from;
+static int torn;
+
+static void pass_instance(struct instance *instance) {
+    if (!instance->passed++) torn++;
+    if (instance->passed == instance->group->size) torn--;
+}
 
 /* Goes on in each rank up to its call of the instance. Gives whether nothing is held there, and as many messages were received as sent. */
 static int is_quiet(const struct instance *instance) {
@@ -62,38 +69,20 @@ static int is_quiet(const struct instance *instance) {
     long balance = 0;
     for (int r = 0; r < rank_count; r++) {
         struct side *side = sides + r;
-        int mine = 0;
-        while (instance->members[mine] != r) mine++;
-        int to = (int)(instance->calls[mine] - ranks[r].calls);
+        int to = (int)(instance->calls[place_in(instance->group, r)] - ranks[r].calls);
         if (to < side->at) {
             quiet = 0;
             continue;
         }
-        for (; side->at < to; side->at++) pass(side, ranks[r].calls + side->at);
+        for (; side->at < to; side->at++) {
+            struct call *call = ranks[r].calls + side->at;
+            pass(side, call);
+            if (call->instance) pass_instance(call->instance);
+        }
         if (side->open) quiet = 0;
         balance += side->balance;
     }
     return quiet && balance == 0;
-}
-
-/* Whether all calls of an instance stand in the phase that is looked at. */
-static int is_inside(const struct instance *instance) {
-    if (instance->arrived < instance->size) return 0;
-    for (int m = 0; m < instance->size; m++) {
-        int rank = instance->members[m];
-        int at = instance->calls[m] ? (int)(instance->calls[m] - ranks[rank].calls) : -1;
-        if (at < from[rank] || at >= sides[rank].at) return 0;
-    }
-    return 1;
-}
-
-static int is_whole_phase(void) {
-    for (int r = 0; r < rank_count; r++)
-        for (int k = from[r]; k < sides[r].at; k++) {
-            const struct instance *instance = ranks[r].calls[k].instance;
-            if (instance && !is_inside(instance)) return 0;
-        }
-    return 1;
 }
 
 static void number_phase(int rank, int to, int phase) {
@@ -108,7 +97,7 @@ int find_cuts(void) {
     for (int i = 0; i < ranks[0].count; i++) {
         const struct call *call = ranks[0].calls + i;
         if (call->op != OP_COLL || !call->instance || !call->instance->whole || !is_full(call->instance)) continue;
-        if (!is_quiet(call->instance) || !is_whole_phase()) continue;
+        if (!is_quiet(call->instance) || torn) continue;
         call->instance->cut = 1;
         for (int r = 0; r < rank_count; r++) {
             number_phase(r, sides[r].at, phase);
@@ -125,10 +114,15 @@ int find_cuts(void) {
 
 /* The ranks' recordings end anywhere; what all of them have as a whole ends at the last cut. */
 void leave_out_the_rest(int phase) {
+    long all = 0, kept = 0;
     for (int r = 0; r < rank_count; r++) {
-        int kept = 0;
-        while (kept < ranks[r].count && ranks[r].calls[kept].phase < phase) kept++;
-        ranks[r].count = kept;
+        int most = ranks[r].count;
+        all += most;
+        while (most && ranks[r].calls[most - 1].phase >= phase) most--;
+        kept += ranks[r].count = most;
     }
-    note("what stands behind the last of %d cuts isn't whole and is left out", phase);
+    if (kept * 10 < all)
+        fail(3, "of %ld recorded calls %ld stand before the last of %d cuts, and what is behind it isn't whole: less than a tenth is no answer (more "
+             "--calls, or --marks)", all, kept, phase);
+    note("%ld of %ld recorded calls are in the text: what stands behind the last of %d cuts isn't whole and is left out", kept, all, phase);
 }

@@ -7,10 +7,16 @@
 #define TO_ARGS buffer, count, type, peer, tag, handle
 #define FROM void *buffer, int count, MPI_Datatype type, int peer, int tag, MPI_Comm handle
 
-static void put_envelope(const struct comm *comm, int peer, int tag) {
-    put(" %d", comm->id);
-    put_peer(comm, peer);
-    put_tag(tag);
+static void put_target(const struct comm *comm, int peer, int tag) {
+    put_comm(comm);
+    put_peer(comm, peer, 0);
+    put_tag(tag, 0);
+}
+
+static void put_source(const struct comm *comm, int peer, int tag) {
+    put_comm(comm);
+    put_peer(comm, peer, 1);
+    put_tag(tag, 1);
 }
 
 /* ---- blocking ---- */
@@ -18,7 +24,7 @@ static void put_envelope(const struct comm *comm, int peer, int tag) {
 static void tell_send(const char *function, char mode, int count, MPI_Datatype type, int peer, int tag, MPI_Comm handle) {
     begin_call(function, "send");
     put(" %c", mode);
-    put_envelope(comm_of(handle), peer, tag);
+    put_target(comm_of(handle), peer, tag);
     put(" %ld", bytes_of(count, type));
     end_call();
 }
@@ -30,63 +36,53 @@ WRAP(Rsend, (TO), (TO_ARGS), tell_send(function, 'r', count, type, peer, tag, ha
 
 static void tell_recv(const char *function, int count, MPI_Datatype type, int peer, int tag, MPI_Comm handle) {
     begin_call(function, "recv");
-    put_envelope(comm_of(handle), peer, tag);
+    put_source(comm_of(handle), peer, tag);
     put(" %ld", bytes_of(count, type));
     end_call();
 }
 
-/* What a wildcard found is told behind the call: the converter warns of programs that seem to use it. */
-static void tell_found(MPI_Comm handle, int peer, int tag, const MPI_Status *status) {
-    struct comm *comm = comm_of(handle);
-    if (peer != MPI_ANY_SOURCE && tag != MPI_ANY_TAG) return;
-    if (comm->inter || status->MPI_SOURCE < 0 || status->MPI_SOURCE >= comm->size) return;
-    plain_line("found %d %d", comm->members[status->MPI_SOURCE], status->MPI_TAG);
+/* ---- what wildcards find ---- */
+
+static _Thread_local MPI_Status own_status, *own_statuses;
+static _Thread_local int asked;  /* whether the program takes the status */
+
+/* What a wildcard found is told behind the call, and whether the program asked: the converter warns of programs that use it. The name
+   is that of a receive's request, and 0 for the call itself. */
+static void tell_source(int id, const struct comm *comm, const MPI_Status *status) {
+    int source = status->MPI_SOURCE;
+    if (!comm->inter && source >= 0 && source < comm->size) plain_line("found %d %d %d %d", id, comm->members[source], status->MPI_TAG, asked);
 }
 
-EXPORTED int MPI_Recv(FROM, MPI_Status *status) {
-    static int (*next)(FROM, MPI_Status *);
-    MPI_Status own;
-    if (!next) next = (int (*)(FROM, MPI_Status *))real_call("PMPI_Recv");
-    int outer = enter();
-    if (outer) {
-        tell_recv("MPI_Recv", count, type, peer, tag, handle);
-        release();
-        if (status == MPI_STATUS_IGNORE) status = &own;
-    }
-    int result = next(buffer, count, type, peer, tag, handle, status);
-    if (outer) {
-        hold();
-        check_result(result);
-        if (result == MPI_SUCCESS) tell_found(handle, peer, tag, status);
-        release();
-    }
-    leave();
-    return result;
-}
-EXPORTED int PMPI_Recv(FROM, MPI_Status *status) __attribute__((alias("MPI_Recv")));
+static int is_wild(int peer, int tag) { return peer == MPI_ANY_SOURCE || tag == MPI_ANY_TAG; }
+
+#define ASK                               \
+    asked = status != MPI_STATUS_IGNORE;  \
+    if (!asked) status = &own_status;
+#define TELL_FOUND \
+    if (result == MPI_SUCCESS && is_wild(peer, tag)) tell_source(0, comm_of(handle), status);
+
+WRAP(Recv, (FROM, MPI_Status *status), (TO_ARGS, status), tell_recv(function, count, type, peer, tag, handle); ASK, TELL_FOUND)
 
 static void tell_both(const char *function, MPI_Comm handle, int to, int sendtag, long sent, int from, int recvtag, long received) {
     struct comm *comm = comm_of(handle);
     begin_call(function, "sendrecv");
-    put(" %d", comm->id);
-    put_peer(comm, to);
-    put_tag(sendtag);
+    put_target(comm, to, sendtag);
     put(" %ld", sent);
-    put_peer(comm, from);
-    put_tag(recvtag);
+    put_peer(comm, from, 1);
+    put_tag(recvtag, 1);
     put(" %ld", received);
     end_call();
 }
 
 WRAP(Sendrecv,
      (const void *sendbuf, int sendcount, MPI_Datatype sendtype, int to, int sendtag, void *recvbuf, int recvcount,
-      MPI_Datatype recvtype, int from, int recvtag, MPI_Comm handle, MPI_Status *status),
-     (sendbuf, sendcount, sendtype, to, sendtag, recvbuf, recvcount, recvtype, from, recvtag, handle, status),
-     tell_both(function, handle, to, sendtag, bytes_of(sendcount, sendtype), from, recvtag, bytes_of(recvcount, recvtype));, )
+      MPI_Datatype recvtype, int peer, int tag, MPI_Comm handle, MPI_Status *status),
+     (sendbuf, sendcount, sendtype, to, sendtag, recvbuf, recvcount, recvtype, peer, tag, handle, status),
+     tell_both(function, handle, to, sendtag, bytes_of(sendcount, sendtype), peer, tag, bytes_of(recvcount, recvtype)); ASK, TELL_FOUND)
 WRAP(Sendrecv_replace,
-     (void *buffer, int count, MPI_Datatype type, int to, int sendtag, int from, int recvtag, MPI_Comm handle, MPI_Status *status),
-     (buffer, count, type, to, sendtag, from, recvtag, handle, status),
-     tell_both(function, handle, to, sendtag, bytes_of(count, type), from, recvtag, bytes_of(count, type));, )
+     (void *buffer, int count, MPI_Datatype type, int to, int sendtag, int peer, int tag, MPI_Comm handle, MPI_Status *status),
+     (buffer, count, type, to, sendtag, peer, tag, handle, status),
+     tell_both(function, handle, to, sendtag, bytes_of(count, type), peer, tag, bytes_of(count, type)); ASK, TELL_FOUND)
 
 /* ---- nonblocking ---- */
 
@@ -94,7 +90,7 @@ static int tell_isend(const char *function, char mode, long bytes, struct comm *
     int id = fresh_name();
     begin_call(function, "isend");
     put(" %c %d", mode, id);
-    put_envelope(comm, peer, tag);
+    put_target(comm, peer, tag);
     put(" %ld", bytes);
     end_call();
     return peer == MPI_PROC_NULL ? NOTHING : id;
@@ -104,7 +100,7 @@ static int tell_irecv(const char *function, long bytes, struct comm *comm, int p
     int id = fresh_name();
     begin_call(function, "irecv");
     put(" %d", id);
-    put_envelope(comm, peer, tag);
+    put_source(comm, peer, tag);
     put(" %ld", bytes);
     end_call();
     return peer == MPI_PROC_NULL ? NOTHING : id;
@@ -117,13 +113,21 @@ static int tell_irecv(const char *function, long bytes, struct comm *comm, int p
 
 static _Thread_local int keep;  /* the name that is given before the call and used behind it */
 
+static void add_receive(const MPI_Request *where, MPI_Comm handle, int peer, int tag) {
+    struct request *request = add_request(where, keep);
+    if (!request || !is_wild(peer, tag)) return;
+    request->comm = comm_of(handle);
+    request->peer = peer;
+    request->tag = tag;
+}
+
 WRAP_ISEND(Isend, 't')
 WRAP_ISEND(Issend, 's')
 WRAP_ISEND(Ibsend, 'b')
 WRAP_ISEND(Irsend, 'r')
 WRAP(Irecv, (FROM, MPI_Request *request), (TO_ARGS, request),
      keep = tell_irecv(function, bytes_of(count, type), comm_of(handle), peer, tag);
-     , if (result == MPI_SUCCESS) add_request(request, keep);)
+     , if (result == MPI_SUCCESS) add_receive(request, handle, peer, tag);)
 
 /* ---- persistent ---- */
 
@@ -146,52 +150,50 @@ WRAP_INIT(Rsend_init, 'r')
 WRAP(Recv_init, (FROM, MPI_Request *request), (TO_ARGS, request),
      , if (result == MPI_SUCCESS) set_up(request, 0, bytes_of(count, type), handle, peer, tag);)
 
-static void tell_start(const char *function, const MPI_Request *handles, int i) {
-    struct request *request = request_of(handles, i);
+static void tell_start(const char *function, const MPI_Request *where) {
+    struct request *request = requests_of(1, where)[0];
     if (!request || request->kind != 'p') {
         begin_call(function, "other");
         end_call();
         return;
     }
-    request->active = 1;
     request->id = request->send ? tell_isend(function, request->send, request->bytes, request->comm, request->peer, request->tag)
                                 : tell_irecv(function, request->bytes, request->comm, request->peer, request->tag);
 }
 
-WRAP(Start, (MPI_Request * request), (request), tell_start(function, request, 0);, )
+WRAP(Start, (MPI_Request * request), (request), tell_start(function, request);, )
 WRAP(Startall, (int count, MPI_Request requests[]), (count, requests),
-     for (int i = 0; i < count; i++) tell_start(function, requests, i);, )
+     for (int i = 0; i < count; i++) tell_start(function, requests ? requests + i : NULL);, )
 
 /* ---- probes ---- */
 
-static _Thread_local MPI_Status own_status;
-
-#define TELL_PROBE(operation, id)                \
-    begin_call(function, operation);             \
-    if (id) put(" %d", id);                      \
-    put_envelope(comm_of(handle), peer, tag);    \
+#define TELL_PROBE(operation, id)              \
+    begin_call(function, operation);           \
+    if (id) put(" %d", id);                    \
+    put_source(comm_of(handle), peer, tag);    \
     end_call();
+#define TELL_FAILED_PROBE                      \
+    begin_poll(function);                      \
+    put_source(comm_of(handle), peer, tag);    \
+    end_poll();
 
-WRAP(Probe, (int peer, int tag, MPI_Comm handle, MPI_Status *status), (peer, tag, handle, status),
-     TELL_PROBE("probe", 0) if (status == MPI_STATUS_IGNORE) status = &own_status;
-     , if (result == MPI_SUCCESS) tell_found(handle, peer, tag, status);)
+WRAP(Probe, (int peer, int tag, MPI_Comm handle, MPI_Status *status), (peer, tag, handle, status), TELL_PROBE("probe", 0) ASK, TELL_FOUND)
 WRAP(Mprobe, (int peer, int tag, MPI_Comm handle, MPI_Message *message, MPI_Status *status), (peer, tag, handle, message, status),
-     keep = fresh_name(); TELL_PROBE("mprobe", keep)
-     , if (result == MPI_SUCCESS && peer != MPI_PROC_NULL) add_message(message, keep);)
-/* Of those that may fail only the first one in a row and those that succeed are told. */
-WRAP(Iprobe, (int peer, int tag, MPI_Comm handle, int *flag, MPI_Status *status), (peer, tag, handle, flag, status),
-     if (polls()) { TELL_PROBE("polls", 0) begin_poll(); } if (status == MPI_STATUS_IGNORE) status = &own_status;
-     , if (result == MPI_SUCCESS && *flag && peer != MPI_PROC_NULL) {
-         TELL_PROBE("iprobe", 0)
-         tell_found(handle, peer, tag, status);
+     keep = fresh_name(); TELL_PROBE("mprobe", keep) ASK,
+     TELL_FOUND if (result == MPI_SUCCESS && peer != MPI_PROC_NULL) add_message(message, keep);)
+/* Behind the call, since only then it is known whether it succeeded. */
+WRAP(Iprobe, (int peer, int tag, MPI_Comm handle, int *flag, MPI_Status *status), (peer, tag, handle, flag, status), ASK,
+     if (result == MPI_SUCCESS && peer != MPI_PROC_NULL) {
+         if (*flag) { TELL_PROBE("iprobe", 0) TELL_FOUND } else { TELL_FAILED_PROBE }
      })
 WRAP(Improbe, (int peer, int tag, MPI_Comm handle, int *flag, MPI_Message *message, MPI_Status *status),
-     (peer, tag, handle, flag, message, status),
-     if (polls()) { TELL_PROBE("polls", 0) begin_poll(); }
-     , if (result == MPI_SUCCESS && *flag && peer != MPI_PROC_NULL) {
-         keep = fresh_name();
-         TELL_PROBE("improbe", keep)
-         add_message(message, keep);
+     (peer, tag, handle, flag, message, status), ASK,
+     if (result == MPI_SUCCESS && peer != MPI_PROC_NULL) {
+         if (*flag) {
+             keep = fresh_name();
+             TELL_PROBE("improbe", keep) TELL_FOUND
+             add_message(message, keep);
+         } else { TELL_FAILED_PROBE }
      })
 
 WRAP(Mrecv, (void *buffer, int count, MPI_Datatype type, MPI_Message *message, MPI_Status *status), (buffer, count, type, message, status),
@@ -202,85 +204,90 @@ WRAP(Imrecv, (void *buffer, int count, MPI_Datatype type, MPI_Message *message, 
 
 /* ---- waits and tests ---- */
 
-static void tell_waits(const char *function, int count, const MPI_Request *requests) {
-    int *ids = malloc(sizeof(int) * (size_t)(count + 1));
-    for (int i = 0; i < count; i++) ids[i] = finish(requests, i);
-    begin_call(function, "wait");
-    for (int i = 0; i < count; i++) put_name(ids[i]);
-    end_call();
-    free(ids);
+/* What the handles stand for is looked up before the call, since they are gone behind it. */
+static _Thread_local struct request **held;
+
+static void put_names(int count) {
+    for (int i = 0; i < count; i++) put_name(name_of(held[i]));
 }
 
-WRAP(Wait, (MPI_Request * request, MPI_Status *status), (request, status), tell_waits(function, 1, request);, )
-WRAP(Waitall, (int count, MPI_Request requests[], MPI_Status statuses[]), (count, requests, statuses), tell_waits(function, count, requests);, )
-
-static void tell_polls(const char *function, const char *operation, int count, const MPI_Request *requests) {
-    int *ids = malloc(sizeof(int) * (size_t)(count + 1));
-    for (int i = 0; i < count; i++) ids[i] = name_of(requests, i);
+static void tell_list(const char *function, const char *operation, int count) {
     begin_call(function, operation);
-    for (int i = 0; i < count; i++) put_name(ids[i]);
+    put_names(count);
     end_call();
-    if (operation[0] == 'p') begin_poll();
-    free(ids);
 }
 
-/* Handles are gone behind a call that ends requests, so it is given a copy of the array's place, and they are looked up by a copy of
-   the handles. */
-struct kept {
-    int count;
-    const MPI_Request *where;
-    MPI_Request handles[];
-};
-
-static struct kept *keep_handles(int count, const MPI_Request *requests) {
-    struct kept *kept = malloc(sizeof *kept + sizeof(MPI_Request) * (size_t)(count + 1));
-    kept->count = count;
-    kept->where = requests;
-    for (int i = 0; i < count; i++) kept->handles[i] = requests[i];
-    return kept;
+static void tell_poll(const char *function, int count) {
+    begin_poll(function);
+    put_names(count);
+    end_poll();
 }
 
-static int finish_kept(const struct kept *kept, int i) { return finish_at(kept->handles[i], kept->where, i); }
-
-static _Thread_local struct kept *held;
-
-#define TELL_TOOK(one)                                          \
-    {                                                           \
-        int id = (one);                                         \
-        if (id != NOTHING) took(function, &id, 1);              \
-    }
-
-static void tell_indices(const char *function, int outcount, const int *indices) {
-    if (outcount == MPI_UNDEFINED || outcount <= 0) return;
-    int *ids = malloc(sizeof(int) * (size_t)outcount);
-    for (int i = 0; i < outcount; i++) ids[i] = finish_kept(held, indices[i]);
-    took(function, ids, outcount);
-    free(ids);
+static int is_wild_receive(const struct request *request) {
+    return request && request->comm && !request->send && is_wild(request->peer, request->tag);
 }
 
-#define BEFORE_ANY held = keep_handles(count, requests); tell_polls(function, "any", count, requests);
-#define BEFORE_TEST held = keep_handles(count, requests); if (polls()) tell_polls(function, "polls", count, requests);
+/* Statuses of our own where a receive with a wildcard is among the requests and the program wants none. */
+static MPI_Status *take_statuses(int count, MPI_Status *statuses, const MPI_Status *ignored) {
+    int wild = 0;
+    asked = statuses != ignored;
+    for (int i = 0; i < count && !asked; i++) wild |= is_wild_receive(held[i]);
+    return wild ? own_statuses = room(own_statuses, sizeof *own_statuses * (size_t)count) : statuses;
+}
 
-WRAP(Waitany, (int count, MPI_Request requests[], int *index, MPI_Status *status), (count, requests, index, status), BEFORE_ANY,
-     if (result == MPI_SUCCESS && *index != MPI_UNDEFINED) TELL_TOOK(finish_kept(held, *index)) free(held);)
+static void end_request(int i, const MPI_Status *status) {
+    const struct comm *comm = is_wild_receive(held[i]) ? held[i]->comm : NULL;
+    int id = finish(held[i]);
+    if (comm && id > 0) tell_source(id, comm, status);
+}
+
+static void end_requests(int count, const MPI_Status *statuses) {
+    for (int i = 0; i < count; i++) end_request(i, statuses + i);
+}
+
+/* Where a test or a wait for some took requests, they are told, and what their wildcards found. */
+static void tell_took(const char *function, int count, const int *indices, const MPI_Status *statuses) {
+    int some = 0;
+    for (int k = 0; k < count; k++) some |= name_of(held[indices ? indices[k] : k]) != NOTHING;
+    if (!some) return;
+    begin_call(function, "took");
+    for (int k = 0; k < count; k++) put_name(name_of(held[indices ? indices[k] : k]));
+    end_call();
+    for (int k = 0; k < count; k++) end_request(indices ? indices[k] : k, statuses + k);
+}
+
+#define HOLD(count, requests) held = requests_of(count, requests);
+#define ONE_STATUS(count) status = take_statuses(count, status, MPI_STATUS_IGNORE);
+#define ALL_STATUSES statuses = take_statuses(count, statuses, MPI_STATUSES_IGNORE);
+
+WRAP(Wait, (MPI_Request * request, MPI_Status *status), (request, status), HOLD(1, request) tell_list(function, "wait", 1); ONE_STATUS(1),
+     if (result == MPI_SUCCESS) end_requests(1, status);)
+WRAP(Waitall, (int count, MPI_Request requests[], MPI_Status statuses[]), (count, requests, statuses),
+     HOLD(count, requests) tell_list(function, "wait", count); ALL_STATUSES, if (result == MPI_SUCCESS) end_requests(count, statuses);)
+WRAP(Waitany, (int count, MPI_Request requests[], int *index, MPI_Status *status), (count, requests, index, status),
+     HOLD(count, requests) tell_list(function, "any", count); ONE_STATUS(count),
+     if (result == MPI_SUCCESS && *index != MPI_UNDEFINED) tell_took(function, 1, index, status);)
 WRAP(Waitsome, (int count, MPI_Request requests[], int *outcount, int indices[], MPI_Status statuses[]),
-     (count, requests, outcount, indices, statuses), BEFORE_ANY, if (result == MPI_SUCCESS) tell_indices(function, *outcount, indices); free(held);)
-WRAP(Test, (MPI_Request * requests, int *flag, MPI_Status *status), (requests, flag, status), const int count = 1; BEFORE_TEST,
-     if (result == MPI_SUCCESS && *flag) TELL_TOOK(finish_kept(held, 0)) free(held);)
-WRAP(Testany, (int count, MPI_Request requests[], int *index, int *flag, MPI_Status *status), (count, requests, index, flag, status),
-     BEFORE_TEST, if (result == MPI_SUCCESS && *flag && *index != MPI_UNDEFINED) TELL_TOOK(finish_kept(held, *index)) free(held);)
-WRAP(Testsome, (int count, MPI_Request requests[], int *outcount, int indices[], MPI_Status statuses[]),
-     (count, requests, outcount, indices, statuses), BEFORE_TEST, if (result == MPI_SUCCESS) tell_indices(function, *outcount, indices); free(held);)
-WRAP(Testall, (int count, MPI_Request requests[], int *flag, MPI_Status statuses[]), (count, requests, flag, statuses), BEFORE_TEST,
-     if (result == MPI_SUCCESS && *flag) {
-         int *ids = malloc(sizeof(int) * (size_t)(count + 1)), some = 0;
-         for (int i = 0; i < count; i++) some |= (ids[i] = finish_kept(held, i)) != NOTHING;
-         if (some) took(function, ids, count);
-         free(ids);
-     } free(held);)
-WRAP(Request_get_status, (MPI_Request request, int *flag, MPI_Status *status), (request, flag, status),
-     if (polls()) { begin_call(function, "polls"); end_call(); begin_poll(); }, )
+     (count, requests, outcount, indices, statuses), HOLD(count, requests) tell_list(function, "any", count); ALL_STATUSES,
+     if (result == MPI_SUCCESS && *outcount != MPI_UNDEFINED) tell_took(function, *outcount, indices, statuses);)
 
-WRAP(Request_free, (MPI_Request * request), (request), int active = name_of(request, 0); int id = drop(request);
-     if (active != NOTHING) { begin_call(function, "free"); put_name(id); end_call(); }, )
-WRAP(Cancel, (MPI_Request * request), (request), begin_call(function, "cancel"); put_name(name_of(request, 0)); end_call();, )
+/* Behind the call, since only then it is known whether it succeeded. */
+WRAP(Test, (MPI_Request * request, int *flag, MPI_Status *status), (request, flag, status), HOLD(1, request) ONE_STATUS(1),
+     if (result == MPI_SUCCESS && *flag) tell_took(function, 1, NULL, status); else if (result == MPI_SUCCESS) tell_poll(function, 1);)
+WRAP(Testany, (int count, MPI_Request requests[], int *index, int *flag, MPI_Status *status), (count, requests, index, flag, status),
+     HOLD(count, requests) ONE_STATUS(count),
+     if (result == MPI_SUCCESS && *flag && *index != MPI_UNDEFINED) tell_took(function, 1, index, status);
+     else if (result == MPI_SUCCESS && !*flag) tell_poll(function, count);)
+WRAP(Testsome, (int count, MPI_Request requests[], int *outcount, int indices[], MPI_Status statuses[]),
+     (count, requests, outcount, indices, statuses), HOLD(count, requests) ALL_STATUSES,
+     if (result == MPI_SUCCESS && *outcount > 0) tell_took(function, *outcount, indices, statuses);
+     else if (result == MPI_SUCCESS && *outcount == 0) tell_poll(function, count);)
+WRAP(Testall, (int count, MPI_Request requests[], int *flag, MPI_Status statuses[]), (count, requests, flag, statuses),
+     HOLD(count, requests) ALL_STATUSES,
+     if (result == MPI_SUCCESS && *flag) tell_took(function, count, NULL, statuses); else if (result == MPI_SUCCESS) tell_poll(function, count);)
+WRAP(Request_get_status, (MPI_Request request, int *flag, MPI_Status *status), (request, flag, status), ,
+     begin_poll(function); end_poll();)
+
+WRAP(Request_free, (MPI_Request * request), (request),
+     HOLD(1, request) if (name_of(held[0]) != NOTHING) tell_list(function, "free", 1);, if (result == MPI_SUCCESS) drop(held[0]);)
+WRAP(Cancel, (MPI_Request * request), (request), HOLD(1, request) tell_list(function, "cancel", 1);, )

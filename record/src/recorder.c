@@ -11,6 +11,7 @@
 #include <stdio.h>
 #include <stdlib.h>
 #include <string.h>
+#include <sys/mman.h>
 #include <sys/stat.h>
 #include <sys/syscall.h>
 #include <unistd.h>
@@ -29,7 +30,7 @@ static int inside_marks = 1;
 static long most_calls;  /* 0: no limit */
 static long calls;
 static long shaken;      /* 0: calls are not delayed */
-static int polling;
+static char *inside;     /* in the recording: whether the rank is inside of a call */
 static long thread_seen;
 static int threads_told;
 
@@ -116,10 +117,29 @@ void plain_line(const char *format, ...) {
     write_line();
 }
 
-void begin_call(const char *function, const char *operation) {
-    polling = 0;
+static void begin_line(const char *function, const char *operation) {
     line_length = 0;
     put("call %s %s", function, operation);
+}
+
+static char **polls;
+static int poll_count;
+
+void begin_call(const char *function, const char *operation) {
+    while (poll_count) free(polls[--poll_count]);
+    begin_line(function, operation);
+}
+
+void begin_poll(const char *function) { begin_line(function, "polls"); }
+
+void end_poll(void) {
+    put("%c", 0);
+    for (int i = 0; i < poll_count; i++)
+        if (!strcmp(polls[i], line)) return;
+    polls = room(polls, sizeof *polls * (size_t)(poll_count + 1));
+    polls[poll_count++] = strcpy(room(NULL, line_length), line);
+    line_length--;
+    end_call();
 }
 
 void end_call(void) {
@@ -136,41 +156,46 @@ void end_call(void) {
     }
     calls++;
     void *frames[MOST_FRAMES];
-    int count = backtrace(frames, MOST_FRAMES);
-    put(" @");
-    for (int i = 0, kept = 0; i < count && kept < KEPT_FRAMES; i++) {
+    int numbers[KEPT_FRAMES], kept = threads_told ? 0 : python_sites(numbers, KEPT_FRAMES);
+    int count = kept ? 0 : backtrace(frames, MOST_FRAMES);
+    for (int i = 0; i < count && kept < KEPT_FRAMES; i++) {
         int number = site_number(frames[i]);
-        if (number) {
-            put(" %d", number);
-            kept++;
-        }
+        if (number) numbers[kept++] = number;
     }
+    put(" @");
+    for (int i = 0; i < kept; i++) put(" %d", numbers[i]);
     put("\n");
     write_line();
+    lines_told++;
     if (shaken) {
         shaken = (long)((unsigned long)shaken * 6364136223846793005u + 1442695040888963407u);
         usleep((useconds_t)(((unsigned long)shaken >> 33) % 2000));
     }
 }
 
-void check_result(int result) {
-    if (result != MPI_SUCCESS) plain_line("failed %d", result);
+void put_comm(const struct comm *comm) {
+    if (comm->inter)
+        put(" ?");
+    else
+        put(" %d", comm->id);
 }
 
-void put_peer(const struct comm *comm, int peer) {
+void put_peer(const struct comm *comm, int peer, int any) {
     if (peer == MPI_PROC_NULL)
         put(" -");
-    else if (peer == MPI_ANY_SOURCE)
+    else if (any && peer == MPI_ANY_SOURCE)
         put(" *");
     else if (peer < 0 || peer >= comm->size || comm->inter)
-        put(" ?");
+        put(" ?%d", peer);
     else
         put(" %d", comm->members[peer]);
 }
 
-void put_tag(int tag) {
-    if (tag == MPI_ANY_TAG)
+void put_tag(int tag, int any) {
+    if (any && tag == MPI_ANY_TAG)
         put(" *");
+    else if (tag < 0)
+        put(" ?%d", tag);
     else
         put(" %d", tag);
 }
@@ -180,16 +205,6 @@ void put_name(int id) {
         put(" ?");
     else if (id != NOTHING)
         put(" %d", id);
-}
-
-int polls(void) { return !polling; }
-
-void begin_poll(void) { polling = 1; }
-
-void took(const char *function, const int *ids, int count) {
-    begin_call(function, "took");
-    for (int i = 0; i < count; i++) put_name(ids[i]);
-    end_call();
 }
 
 long bytes_of(long count, MPI_Datatype type) {
@@ -203,6 +218,7 @@ long bytes_of(long count, MPI_Datatype type) {
 
 int enter(void) {
     if (depth++ > 0 || !begun || ended) return 0;
+    if (inside) *inside = 'i';
     pthread_mutex_lock(&lock);
     long thread = syscall(SYS_gettid);
     if (!thread_seen) thread_seen = thread;
@@ -217,16 +233,72 @@ void hold(void) { pthread_mutex_lock(&lock); }
 
 void release(void) { pthread_mutex_unlock(&lock); }
 
-void leave(void) { depth--; }
+void leave(void) {
+    if (--depth) return;
+    if (inside) *inside = 'b';
+    lines_told = 0;
+}
 
+int is_recorded(void) { return begun; }
+
+/* A handler of errors is called within a call, but what it calls are the program's own calls; and where it doesn't return (it jumps,
+   or throws), the call that it was called in is over. */
+int begin_handler(void) {
+    int before = depth;
+    depth = 0;
+    if (inside) *inside = 'b';
+    return before;
+}
+
+void end_handler(int before) {
+    depth = before;
+    if (inside) *inside = 'i';
+}
+
+/* The second line is `state b` behind a call and `state i` inside of one, or `state ?` where the file can't be mapped. It is changed in
+   place, so it can be read of a rank that was killed. */
 static void first_lines(int rank, int size) {
     char version[MPI_MAX_LIBRARY_VERSION_STRING];
     int length;
     PMPI_Get_library_version(version, &length);
     version[strcspn(version, "\n\r,")] = 0;
     line_length = 0;
-    put("recording 1 %d %d %s\n", rank, size, version);
+    put("recording 1 %d %d %s\nstate ", rank, size, version);
+    size_t at = line_length;
+    put("?\n");
     write_line();
+    char *page = file < 0 || at >= 4096 ? MAP_FAILED : mmap(NULL, 4096, PROT_READ | PROT_WRITE, MAP_SHARED, file, 0);
+    if (page == MAP_FAILED) return;
+    inside = page + at;
+    *inside = 'b';
+}
+
+static const char *directory(void) {
+    const char *name = getenv("RECORD_DIRECTORY");
+    if (!name) name = "recording";
+    mkdir(name, 0777);
+    return name;
+}
+
+void leave_word(const char *name) {
+    snprintf(path, sizeof path, "%s/%s", directory(), name);
+    int word = open(path, O_WRONLY | O_CREAT | O_CLOEXEC, 0666);
+    if (word >= 0) close(word);
+}
+
+/* A file that is there already is that of another program of this run, or of another run. */
+static void open_recording(int rank) {
+    snprintf(path, sizeof path, "%s/rank.%d", directory(), rank);
+    file = open(path, O_RDWR | O_CREAT | O_EXCL | O_APPEND | O_CLOEXEC, 0666);
+    if (file >= 0) return;
+    int there = errno == EEXIST;
+    fprintf(stderr, "record: %s %s\n", path, there ? "is there already: a second MPI program isn't recorded" : "can't be written");
+    if (there) leave_word("several");
+}
+
+static int option(const char *name) {
+    const char *text = getenv(name);
+    return text ? atoi(text) : 0;
 }
 
 void start_recording(void) {
@@ -235,29 +307,23 @@ void start_recording(void) {
     int rank, size;
     PMPI_Comm_rank(MPI_COMM_WORLD, &rank);
     PMPI_Comm_size(MPI_COMM_WORLD, &size);
-    const char *directory = getenv("RECORD_DIRECTORY");
-    if (!directory) directory = "recording";
-    mkdir(directory, 0777);
-    snprintf(path, sizeof path, "%s/rank.%d", directory, rank);
-    file = open(path, O_WRONLY | O_CREAT | O_TRUNC | O_APPEND | O_CLOEXEC, 0666);
-    if (file < 0) fprintf(stderr, "record: %s can't be written\n", path);
-    const char *option = getenv("RECORD_CALLS");
-    if (option) most_calls = atol(option);
-    option = getenv("RECORD_SHAKE");
-    if (option && atol(option) > 0) shaken = atol(option) * 1000003 + rank + 1;
-    option = getenv("RECORD_MARKS");
+    open_recording(rank);
+    most_calls = option("RECORD_CALLS");
+    if (option("RECORD_SHAKE") > 0) shaken = option("RECORD_SHAKE") * 1000003L + rank + 1;
     first_lines(rank, size);
     void *frame[1];
     backtrace(frame, 1);
-    add_comm(MPI_COMM_WORLD, NULL, 0);
-    add_comm(MPI_COMM_SELF, NULL, 0);
-    if (option && *option && *option != '0') {
-        by_marks = 1;
-        inside_marks = 0;
-    }
+    add_comm(MPI_COMM_WORLD, "world");
+    add_comm(MPI_COMM_SELF, "self");
+    by_marks = option("RECORD_MARKS");
+    inside_marks = !by_marks;
 }
 
-void end_recording(void) {
+/* The end is told also outside of marks. */
+void end_recording(const char *function, const char *operation) {
+    inside_marks = 1;
+    begin_call(function, operation);
+    end_call();
     ended = 1;
     if (file >= 0) close(file);
     file = -1;

@@ -4,6 +4,8 @@
 #ifndef RECORDER_H
 #define RECORDER_H
 
+#include "calls.h"
+
 #include <mpi.h>
 #include <stddef.h>
 
@@ -15,7 +17,7 @@ struct comm {
     int rank;        /* this rank's own number in it */
     int *members;    /* world rank of each number */
     int children;    /* communicators that were made of it */
-    int inter;
+    int inter;       /* an intercommunicator, or one of which not all members belong to the program */
 };
 
 /* A request that the program holds. A start that has no partner (MPI_PROC_NULL) has the name 0. */
@@ -25,67 +27,65 @@ struct request {
     int id;                    /* its name; 0: nothing to wait for */
     char kind;                 /* 'o' once, 'p' persistent */
     char send;                 /* persistent: the mode of the send, or 0 for a receive */
-    struct comm *comm;         /* persistent: the arguments */
-    int peer, tag;
+    struct comm *comm;         /* of a receive with a wildcard, and of all persistent ones; else NULL */
+    int peer, tag;             /* persistent: the arguments */
     long bytes;
-    int active;
+    long list;                 /* the last list of handles in which it was found */
 };
 
 #define NOTHING 0   /* the name of a request that needs no wait */
 #define UNKNOWN (-1)  /* the name of a request whose start was not recorded */
 
-int enter(void);     /* 1 where a call of the program itself begins; then the tables are held */
-void release(void);  /* while the call is carried out they are not */
-void hold(void);
-void leave(void);
-void *real_call(const char *name);
 void start_recording(void);
-void end_recording(void);
+void end_recording(const char *function, const char *operation);
 void pass_mark(int level);
 
 /* Memory, or the end of the process where there is none. */
 void *room(void *old, size_t bytes);
 
-/* A line of the recording is put together and then written at once. */
-void begin_call(const char *function, const char *operation);
 void put(const char *format, ...) __attribute__((format(printf, 1, 2)));
-void put_peer(const struct comm *comm, int peer);
-void put_tag(int tag);
+void put_comm(const struct comm *comm);
+void put_peer(const struct comm *comm, int peer, int any);  /* `any`: whether a wildcard may stand there */
+void put_tag(int tag, int any);
 void put_name(int id);
-void end_call(void);
 void plain_line(const char *format, ...) __attribute__((format(printf, 1, 2)));
 void write_bytes(const char *bytes, size_t length);
 void write_line(void);  /* also where no calls are recorded: what later lines name */
 void new_line(void);
-void check_result(int result);
 
-/* Tests that fail are told once, until something else is told. */
-int polls(void);        /* 1 where such a test is to be told */
-void begin_poll(void);  /* it was told */
-void took(const char *function, const int *ids, int count);
+/* Tests that fail: those that differ are told once each, until something else is told. */
+void begin_poll(const char *function);
+void end_poll(void);
+
+/* errors.c: a call of the program returned an error, or its handler was called */
+void check_result(int result);
+extern _Thread_local int lines_told;  /* of the call that the program is in */
 
 int site_number(void *address);  /* sites.c: 0 for one in the MPI library */
+int tell_python_site(const char *text);
+int python_sites(int *numbers, int most);
 
 long bytes_of(long count, MPI_Datatype type);
 
 struct comm *comm_of(MPI_Comm handle);
-void add_comm(MPI_Comm handle, struct comm *parent, int tag);
+void add_comm(MPI_Comm handle, const char *origin);
+void add_child(MPI_Comm handle, struct comm *parent);
+void add_twin(MPI_Comm handle, struct comm *parent);  /* of the same members, where the handle can't be asked yet */
 void forget_comm(MPI_Comm handle);
 
 int fresh_name(void);
-/* A request is named by an array of handles and a place in it. */
-void add_request(const MPI_Request *where, int id);
+struct request *add_request(const MPI_Request *where, int id);
 struct request *add_persistent(const MPI_Request *where);
-struct request *request_of(const MPI_Request *handles, int i);
-int name_of(const MPI_Request *handles, int i);  /* without a change */
-int finish(const MPI_Request *handles, int i);   /* the name, and the request is no longer held, or no longer active */
-int finish_at(MPI_Request handle, const MPI_Request *handles, int i);  /* the same of a handle that stood there */
-int drop(const MPI_Request *where);              /* the name, and the request is no longer held */
+
+/* The requests that an array of handles stands for, each of them once: NULL for none, and one of the name UNKNOWN where the start was
+   not recorded. They stay until the next call of the same thread. */
+struct request **requests_of(int count, const MPI_Request *handles);
+int name_of(const struct request *request);
+int finish(struct request *request);  /* the name, and the request is no longer held, or no longer active */
+int drop(struct request *request);    /* the name, and the request is no longer held */
 
 int add_message(const MPI_Message *where, int id);
 int drop_message(const MPI_Message *where);
-
-#define EXPORTED __attribute__((visibility("default")))
 
 /* The call of the library under the name PMPI_NAME, with our own in front of it under both names. Fortran's bindings call
    MPI_NAME in MPICH and PMPI_NAME in Open MPI. `before` is done before the call is carried out, `after` behind it. */

@@ -16,7 +16,7 @@ static int refusal_count;
 
 static void refuse(const char *what, int rank, const struct call *call, int softly) {
     for (int i = 0; i < refusal_count; i++)
-        if (!strcmp(refusals[i].what, what) && !strcmp(refusals[i].function, call->function)) {
+        if (!strcmp(refusals[i].what, what) && refusals[i].function == call->function) {
             refusals[i].count++;
             return;
         }
@@ -26,32 +26,29 @@ static void refuse(const char *what, int rank, const struct call *call, int soft
 
 static int is_refused(const char *function) {
     for (int i = 0; i < refusal_count; i++)
-        if (!strcmp(refusals[i].function, function)) return 1;
+        if (refusals[i].function == function) return 1;
     return 0;
 }
 
 static const char *const not_single = "not single-path: what comes next depends on what has arrived";
 
-static int known_comm(int rank, const struct call *call) { return call->comm >= 0 && !ranks[rank].comms[call->comm].inter; }
-
 /* A test of sends alone often only looks for buffers that are free again. */
-static int tests_sends_alone(const struct rank *rank, char *sends, const struct call *call) {
-    if (strncmp(call->function, "MPI_Test", 8)) return 0;
-    for (int i = 0; i < call->count; i++)
-        if (call->list[i] <= 0 || call->list[i] > rank->most_request || !sends[call->list[i]]) return 0;
+int tells_sends_alone(const struct rank *rank, const struct call *call) {
+    if (strncmp(call->function, "MPI_Test", 8) || !call->count) return 0;
+    for (int i = 0; i < call->count; i++) {
+        int id = call->list[i];
+        if (id <= 0 || id > rank->most_request || !rank->starts[id] || rank->calls[rank->starts[id] - 1].op != OP_ISEND) return 0;
+    }
     return 1;
 }
 
 static void leave_out_tests(int r) {
     struct rank *rank = ranks + r;
-    char *sends = room(NULL, (size_t)rank->most_request + 1);
     int count = 0;
     const struct call *first = NULL;
-    memset(sends, 0, (size_t)rank->most_request + 1);
     for (int i = 0; i < rank->count; i++) {
         struct call *call = rank->calls + i;
-        if (call->op == OP_ISEND) sends[call->id] = 1;
-        if ((call->op == OP_POLLS || call->op == OP_TOOK) && tests_sends_alone(rank, sends, call)) {
+        if ((call->op == OP_POLLS || call->op == OP_TOOK || call->op == OP_ANY) && tells_sends_alone(rank, call)) {
             call->dropped = 1;
             if (!count++) first = call;
         }
@@ -59,86 +56,63 @@ static void leave_out_tests(int r) {
     if (count)
         note("rank %d: %d tests of sends are left out (first in %s), and no wait is written for sends that a test alone completed: right where what "
              "comes next doesn't depend on them", r, count, place_of(rank, first));
-    free(sends);
 }
 
-/* Takes the names of one list out of another; 0: one of them isn't there. */
-static int take_out(int *from, int *count, const struct call *call) {
-    for (int i = 0; i < call->count; i++) {
-        int at = 0;
-        while (at < *count && from[at] != call->list[i]) at++;
-        if (at == *count) return 0;
-        from[at] = from[--*count];
-    }
-    return 1;
-}
-
-/* MPI_Waitany or MPI_Waitsome again and again, until all that the first one named is done, and no other call in between: the rank
-   goes on once all is done, in whatever order, as behind MPI_Waitall. */
-static void join_waits(int r) {
+/* What the program can have meant, where the recording shows it. */
+static void refuse_call(int r, struct call *call) {
     struct rank *rank = ranks + r;
-    int joined = 0;
-    const struct call *first = NULL;
-    for (int i = 0; i < rank->count; i++) {
-        struct call *call = rank->calls + i;
-        if (call->op != OP_ANY || !call->count || call->dropped) continue;
-        int left = call->count, *names = room(NULL, sizeof(int) * (size_t)left), k = i + 1;
-        memcpy(names, call->list, sizeof(int) * (size_t)left);
-        for (; k < rank->count && left; k++) {
-            struct call *next = rank->calls + k;
-            if (next->op == OP_ANY) continue;
-            if ((next->op != OP_TOOK && next->op != OP_WAIT) || !take_out(names, &left, next)) break;
-        }
-        free(names);
-        if (left) continue;
-        while (k < rank->count && rank->calls[k].op == OP_ANY && !rank->calls[k].count) k++;
-        call->op = OP_WAIT;
-        for (int j = i + 1; j < k; j++) rank->calls[j].dropped = 1;
-        if (!joined++) first = call;
+    if (call->error) {
+        char text[400];
+        snprintf(text, sizeof text, "it returned %.300s, and what became of it isn't known", call->wrong);
+        refuse(same(text), r, call, 0);
+        call->dropped = 1;
+        return;
     }
-    if (joined)
-        note("rank %d: %d times %s (first in %s) was called until all that it named was done, with no other call in between; it is written as one "
-             "wait for all, which is right where the program never stops earlier", r, joined, first->function, place_of(rank, first));
+    switch (call->op) {
+    case OP_OTHER: refuse("not covered", r, call, 0); break;
+    case OP_ANY:
+        if (call->count) refuse(not_single, r, call, 1);
+        break;
+    case OP_POLLS: refuse(tells_sends_alone(rank, call) ? "tests of sends (--free-tests)" : not_single, r, call, 1); break;
+    case OP_TOOK:
+        if (!is_refused(call->function)) refuse(tells_sends_alone(rank, call) ? "tests of sends (--free-tests)" : not_single, r, call, 1);
+        break;
+    case OP_CANCEL: refuse("whether it is cancelled depends on what has arrived", r, call, 1); break;
+    case OP_SEND:
+    case OP_ISEND:
+    case OP_RECV:
+    case OP_IRECV:
+    case OP_SENDRECV:
+    case OP_PROBE:
+    case OP_MPROBE:
+    case OP_COLL:
+    case OP_ICOLL:
+        if (call->wrong || !group_of(rank, call)) {
+            const char *without = "on MPI_COMM_NULL, an intercommunicator, or a communicator whose making was not seen";
+            refuse(group_of(rank, call) ? call->wrong : without, r, call, 0);
+            call->dropped = 1;
+        }
+        break;
+    default: break;
+    }
+}
+
+/* Calls of several threads stand in the order of this run. */
+static void refuse_threads(int r) {
+    if (!ranks[r].threads || !ranks[r].count) return;
+    refuse("calls of several threads", r, ranks[r].calls, 1);
+    if (options.this_run)
+        note("rank %d: calls of several threads stand in the order of this run: a deadlock in which that rank waits may come of this order alone, and is "
+             "then none of the program's", r);
 }
 
 void look_for_refusals(void) {
     for (int r = 0; r < rank_count; r++) {
-        join_waits(r);
-        if (options.free_tests) leave_out_tests(r);
-        if (ranks[r].threads && ranks[r].count) refuse("calls of several threads", r, ranks[r].calls, 1);
-        for (int i = 0; i < ranks[r].count; i++) {
-            struct call *call = ranks[r].calls + i;
-            if (call->dropped) continue;
-            switch (call->op) {
-            case OP_OTHER: refuse("not covered", r, call, 0); break;
-            case OP_ANY:
-                if (!call->count) break;
-                refuse(not_single, r, call, 1);
-                break;
-            case OP_POLLS:
-            case OP_IPROBE:
-            case OP_IMPROBE: refuse(not_single, r, call, 1); break;
-            case OP_TOOK:
-                if (!is_refused(call->function)) refuse(not_single, r, call, 1);
-                break;
-            case OP_CANCEL: refuse("whether it is cancelled depends on what has arrived", r, call, 1); break;
-            case OP_SEND:
-            case OP_ISEND:
-            case OP_RECV:
-            case OP_IRECV:
-            case OP_SENDRECV:
-            case OP_PROBE:
-            case OP_MPROBE:
-            case OP_COLL:
-            case OP_ICOLL:
-                if (!known_comm(r, call)) {
-                    refuse("on an intercommunicator, or on a communicator whose making was not seen", r, call, 0);
-                    call->dropped = 1;
-                }
-                break;
-            default: break;
-            }
-        }
+        if (options.free_tests || options.this_run) leave_out_tests(r);
+        settle_polls(r);
+        refuse_threads(r);
+        for (int i = 0; i < ranks[r].count; i++)
+            if (!ranks[r].calls[i].dropped) refuse_call(r, ranks[r].calls + i);
     }
 }
 

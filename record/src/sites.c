@@ -72,6 +72,14 @@ static int tell_site(void *address) {
     return site_count;
 }
 
+/* The line of the source in place of the offset, and `python:FILE:FUNCTION` in place of the object. */
+int tell_python_site(const char *text) {
+    char line[4700];
+    int n = snprintf(line, sizeof line, "site %d %s\n", ++site_count, text);
+    write_bytes(line, (size_t)n);
+    return site_count;
+}
+
 int site_number(void *address) {
     if (sites_used * 2 >= site_room) grow();
     struct site *site = place_of(address);

@@ -42,7 +42,7 @@ static int is_joined(struct line *start, struct line *wait) {
 
 static void make_compact(int rank) {
     struct lines old = lines[rank];
-    lines[rank] = (struct lines){0};
+    lines[rank] = (struct lines){.added = old.added};
     for (int i = 0; i < old.count; i++) {
         struct line *line = old.at + i, *last = lines[rank].count ? lines[rank].at + lines[rank].count - 1 : NULL;
         if (line->word == W_SENDRECV)
@@ -77,12 +77,10 @@ static struct channel *channel_of(int from, int to, int tag, const char *comm) {
             if (old[i].comm) *channel_of(old[i].from, old[i].to, old[i].tag, old[i].comm) = old[i];
         free(old);
     }
-    size_t hash = (size_t)from * 64 + (size_t)to + (size_t)tag * 4096;
-    for (const char *c = comm; *c; c++) hash = hash * 31 + (unsigned char)*c;
-    size_t at = hash * 0x9E3779B97F4A7C15u % channel_room;
+    size_t at = hash_of_message(from, to, tag, comm) % channel_room;
     for (; channels[at].comm; at = (at + 1) % channel_room) {
         struct channel *c = channels + at;
-        if (c->from == from && c->to == to && c->tag == tag && !strcmp(c->comm, comm)) return c;
+        if (c->from == from && c->to == to && c->tag == tag && c->comm == comm) return c;
     }
     channels[at] = (struct channel){.from = from, .to = to, .tag = tag, .comm = comm};
     channel_count++;
@@ -112,7 +110,7 @@ static int finder_count;
 static void add_finder(int rank, const struct line *line) {
     for (int k = 0; k < finder_count; k++) {
         const struct finder *f = finders + k;
-        if (f->to == rank && f->from == line->peer && f->tag == line->tag && !strcmp(f->comm, line->comm)) return;
+        if (f->to == rank && f->from == line->peer && f->tag == line->tag && f->comm == line->comm) return;
     }
     finders = room(finders, sizeof *finders * (size_t)(finder_count + 1));
     finders[finder_count++] = (struct finder){rank, line->peer, line->tag, line->comm};
@@ -120,7 +118,7 @@ static void add_finder(int rank, const struct line *line) {
 
 static int may_find(const struct finder *finder, const struct channel *channel) {
     return finder->to == channel->to && (finder->from == ANY || finder->from == channel->from) &&
-           (finder->tag == ANY || finder->tag == channel->tag) && !strcmp(finder->comm, channel->comm);
+           (finder->tag == ANY || finder->tag == channel->tag) && finder->comm == channel->comm;
 }
 
 static void look_for_channels(void) {

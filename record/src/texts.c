@@ -5,87 +5,183 @@
 #include <stdlib.h>
 #include <string.h>
 
-static int number_in(struct numbers *numbers, const void *text, long number) {
-    for (int i = numbers->count - 1; i >= 0; i--)
-        if (numbers->numbers[i] == number && (numbers->keys[i] == text || (text && numbers->keys[i] && !strcmp(text, numbers->keys[i])))) return i;
-    numbers->keys = room(numbers->keys, sizeof *numbers->keys * (size_t)(numbers->count + 1));
-    numbers->numbers = room(numbers->numbers, sizeof *numbers->numbers * (size_t)(numbers->count + 1));
-    numbers->keys[numbers->count] = text;
-    numbers->numbers[numbers->count] = number;
-    return numbers->count++;
-}
-
 #define MOST_TAG 32767
 
-static int *tag_numbers, tag_numbers_for;
+/* ---- numbers of the text's own ---- */
+
+static int number_in(struct numbers *numbers, size_t key) {
+    if ((size_t)numbers->count * 2 >= numbers->room) {
+        numbers->room = numbers->room * 2 + 64;
+        numbers->keys = room(numbers->keys, sizeof *numbers->keys * numbers->room);
+        free(numbers->places);
+        numbers->places = zeros(numbers->room, sizeof *numbers->places);
+        int count = numbers->count;
+        for (numbers->count = 0; numbers->count < count;) number_in(numbers, numbers->keys[numbers->count]);
+    }
+    size_t at = (key ^ key >> 17) * 0x9E3779B97F4A7C15u % numbers->room;
+    while (numbers->places[at] && numbers->keys[numbers->places[at] - 1] != key) at = (at + 1) % numbers->room;
+    if (!numbers->places[at]) {
+        numbers->keys[numbers->count] = key;
+        numbers->places[at] = ++numbers->count;
+    }
+    return numbers->places[at] - 1;
+}
 
 static int in_phase(const struct line *line, int phase) {
     if (phase < 0) return 1;
     return line->call->phase == phase && !(line->call->instance && line->call->instance->cut);
 }
 
-static void put_tag(FILE *file, struct text *text, int tag) {
-    if (tag == ANY)
-        fprintf(file, " *");
-    else if (text->plain && tag <= MOST_TAG)
-        fprintf(file, " %d", tag);
-    else
-        fprintf(file, " %d", (text->plain ? MOST_TAG : 0) + (text->plain ? -1 : 1) * number_in(&text->tags, NULL, tag));
+static void use_tag(struct text *text, int tag) {
+    if (tag >= 0 && tag <= MOST_TAG) text->used_tags[tag] = 1;
 }
 
-static void put_peer(FILE *file, int peer) {
-    if (peer == ANY)
-        fprintf(file, " *");
+/* The tags that stand in the text as they are. */
+static void find_tags(struct text *text, int phase) {
+    text->used_tags = zeros(MOST_TAG + 1, 1);
+    text->free_tag = MOST_TAG + 1;
+    for (int r = 0; r < rank_count; r++)
+        for (int i = 0; i < lines[r].count; i++) {
+            const struct line *line = lines[r].at + i;
+            if (!line->comm || !in_phase(line, phase)) continue;
+            use_tag(text, line->tag);
+            if (line->word == W_SENDRECV) use_tag(text, line->tag2);
+        }
+}
+
+/* Higher tags get numbers that no tag of the text has, from the highest down. */
+static int other_tag(struct text *text, int tag) {
+    int which = number_in(&text->tags, (size_t)tag);
+    if (which == text->tags.count - 1 && which == text->other_count) {
+        do {
+            if (!text->free_tag--) fail(3, "the tags of the program: more than 32,768 different ones in a text");
+        } while (text->used_tags[text->free_tag]);
+        text->other_tags = room(text->other_tags, sizeof(int) * (size_t)(which + 1));
+        text->other_tags[text->other_count++] = text->free_tag;
+    }
+    return text->other_tags[which];
+}
+
+static int number_of_tag(struct text *text, int tag) {
+    if (!text->plain) return number_in(&text->tags, (size_t)tag);
+    return tag <= MOST_TAG ? tag : other_tag(text, tag);
+}
+
+/* ---- lines ---- */
+
+static void put_number(FILE *file, long number) {
+    char digits[24];
+    int at = sizeof digits;
+    do digits[--at] = (char)('0' + number % 10);
+    while (number /= 10);
+    fwrite_unlocked(digits + at, 1, sizeof digits - (size_t)at, file);
+}
+
+static void put_word(FILE *file, const char *word) { fputs_unlocked(word, file); }
+
+static void put_any(FILE *file, int number) {
+    putc_unlocked(' ', file);
+    if (number == ANY)
+        putc_unlocked('*', file);
     else
-        fprintf(file, " %d", peer);
+        put_number(file, number);
+}
+
+static void put_name(FILE *file, char letter, int name) {
+    putc_unlocked(' ', file);
+    putc_unlocked(letter, file);
+    put_number(file, name);
+}
+
+static void put_end_of_tag(FILE *file, struct text *text, int tag) { put_any(file, tag == ANY ? ANY : number_of_tag(text, tag)); }
+
+static int is_start(const struct line *line) {
+    switch (line->word) {
+    case W_ISEND:
+    case W_ISSEND:
+    case W_IBSEND:
+    case W_IRECV:
+    case W_MPROBE:
+    case W_IMRECV: return 1;
+    default: return 0;
+    }
+}
+
+static int *tag_numbers, tag_numbers_for;
+
+/* Of a collective: one message has this tag, or some between other pairs of ranks. */
+static void put_own_tag(FILE *file, struct text *text, const struct line *line) {
+    if (line->tag >= tag_numbers_for) fail(70, "a collective has no number");
+    if (tag_numbers[line->tag] < 0) tag_numbers[line->tag] = text->collective_count++;
+    int number = tag_numbers[line->tag];
+    put_any(file, number % (MOST_TAG + 1));
+    put_word(file, " comm");
+    put_any(file, 255 - number / (MOST_TAG + 1));
+}
+
+static void put_envelope(FILE *file, struct text *text, const struct line *line) {
+    static const char *world;
+    if (!world) world = same("world");
+    put_any(file, line->peer);
+    if (!line->comm) {
+        put_own_tag(file, text, line);
+        return;
+    }
+    put_end_of_tag(file, text, line->tag);
+    if (line->word == W_SENDRECV) {
+        put_any(file, line->peer2);
+        put_end_of_tag(file, text, line->tag2);
+    }
+    if (line->comm == world) return;
+    put_word(file, " comm");
+    put_any(file, number_in(&text->comms, (size_t)line->comm) + 1);
 }
 
 static void put_line(FILE *file, struct text *text, const struct line *line, int *names, int *named) {
     static const char *const words[] = {"send", "ssend", "bsend", "isend", "issend", "ibsend", "recv", "irecv", "probe", "mprobe", "mrecv", "imrecv", "wait", "sendrecv"};
-    int starts = line->word == W_ISEND || line->word == W_ISSEND || line->word == W_IBSEND || line->word == W_IRECV || line->word == W_MPROBE || line->word == W_IMRECV;
-    if (starts && !names[line->name]) names[line->name] = ++*named;
-    if (line->word == W_WAIT) {
-        fprintf(file, line->count > 1 ? "waitall" : "wait");
-        for (int i = 0; i < line->count; i++) fprintf(file, " q%d", names[line->list[i]]);
-        fprintf(file, "\n");
-        return;
-    }
-    fprintf(file, "%s", words[line->word]);
-    if (line->word == W_MRECV || line->word == W_IMRECV) {
-        if (line->word == W_IMRECV) fprintf(file, " q%d", names[line->name]);
-        fprintf(file, " h%d\n", names[line->of]);
-        return;
-    }
-    if (starts) fprintf(file, " %c%d", line->word == W_MPROBE ? 'h' : 'q', names[line->name]);
-    put_peer(file, line->peer);
-    if (!line->comm) {  /* of a collective: one message has this tag, or some between other pairs of ranks */
-        if (line->tag >= tag_numbers_for) fail(70, "a collective has no number");
-        if (tag_numbers[line->tag] < 0) tag_numbers[line->tag] = text->collective_count++;
-        int number = tag_numbers[line->tag];
-        fprintf(file, " %d comm %d\n", number % (MOST_TAG + 1), 255 - number / (MOST_TAG + 1));
-        return;
-    }
-    put_tag(file, text, line->tag);
-    if (line->word == W_SENDRECV) {
-        put_peer(file, line->peer2);
-        put_tag(file, text, line->tag2);
-    }
-    if (strcmp(line->comm, "world")) fprintf(file, " comm %d", number_in(&text->comms, line->comm, 0) + 1);
-    fprintf(file, "\n");
+    if (is_start(line) && !names[line->name]) names[line->name] = ++*named;
+    put_word(file, line->word == W_WAIT && line->count > 1 ? "waitall" : words[line->word]);
+    if (line->word == W_WAIT)
+        for (int i = 0; i < line->count; i++) put_name(file, 'q', names[line->list[i]]);
+    else if (is_start(line))
+        put_name(file, line->word == W_MPROBE ? 'h' : 'q', names[line->name]);
+    if (line->word == W_MRECV || line->word == W_IMRECV)
+        put_name(file, 'h', names[line->of]);
+    else if (line->word != W_WAIT)
+        put_envelope(file, text, line);
+    putc_unlocked('\n', file);
 }
+
+static int has_envelope(const struct line *line) { return line->word != W_WAIT && line->word != W_MRECV && line->word != W_IMRECV; }
 
 static void put_map_line(FILE *map, const struct text *text, int rank, const struct line *line) {
     const struct call *call = line->call;
-    fprintf(map, "line %ld: rank %d, %s", text->lines, rank, call->function);
-    if (call->op != OP_WAIT && call->op != OP_TOOK && call->op != OP_MRECV && call->op != OP_IMRECV) fprintf(map, ", %ld bytes", call->bytes);
-    fprintf(map, ", ");
-    put_place(map, ranks + rank, call);
-    if (call->instance) fprintf(map, "; collective %d of %s", call->instance->number + 1, ranks[rank].comms[call->comm].name);
-    if (!call->instance && !line->comm && line->word != W_WAIT && line->word != W_MRECV && line->word != W_IMRECV)
-        fprintf(map, "; tag %d of %s in the program", line->word == W_RECV && call->op == OP_SENDRECV ? call->tag2 : call->tag, ranks[rank].comms[call->comm].name);
-    if (line->remark) fprintf(map, "; %s", line->remark);
-    put_callers(map, ranks + rank, call);
-    fprintf(map, "\n");
+    struct group *group = group_of(ranks + rank, call);
+    put_word(map, "line ");
+    put_number(map, text->lines);
+    put_word(map, ": rank ");
+    put_number(map, rank);
+    put_word(map, ", ");
+    put_word(map, call->function);
+    if (call->op != OP_WAIT && call->op != OP_TOOK && call->op != OP_MRECV && call->op != OP_IMRECV) {
+        put_word(map, ", ");
+        put_number(map, call->bytes);
+        put_word(map, " bytes");
+    }
+    put_word(map, ", ");
+    put_word(map, words_of(ranks + rank, call));
+    if (group) group->told = 1;
+    if (call->instance) {
+        fprintf(map, "; collective %d of %s", call->instance->number + 1, group->name);
+        if (call->root >= 0) fprintf(map, ", root %d", call->root);
+    } else if (!line->comm && has_envelope(line))
+        fprintf(map, "; tag %d of %s in the program", line->word == W_RECV && call->op == OP_SENDRECV ? call->tag2 : call->tag, group->name);
+    if (line->remark) {
+        put_word(map, "; ");
+        put_word(map, line->remark);
+    }
+    put_word(map, callers_of(ranks + rank, call));
+    putc_unlocked('\n', map);
 }
 
 static void count_line(struct text *text, const struct line *line) {
@@ -102,72 +198,104 @@ static void count_line(struct text *text, const struct line *line) {
     }
 }
 
-/* The sends to one rank that a receive or probe can't tell apart. */
+/* ---- pairs of a send and a receive or probe that fit ---- */
+
+/* The sends to one rank that a receive or probe can't tell apart; source or tag may be ANY. */
 struct class {
-    int from, tag, count;
-    const char *comm;
+    int to, from, tag;
+    const char *comm;        /* NULL: this place of the table is free */
+    int first, several;      /* a source of them, and whether there are others */
+    long count;
 };
 static struct class *classes;
-static int class_count;
+static size_t class_room, class_count;
 
-static void add_to_class(int rank, const struct line *line) {
-    int k = class_count - 1;
-    while (k >= 0 && !(classes[k].from == rank && classes[k].tag == line->tag && !strcmp(classes[k].comm, line->comm))) k--;
-    if (k < 0) {
-        classes = room(classes, sizeof *classes * (size_t)(class_count + 1));
-        classes[k = class_count++] = (struct class){rank, line->tag, 0, line->comm};
+static struct class *class_of(int to, int from, int tag, const char *comm) {
+    if (class_count * 2 >= class_room) {
+        struct class *old = classes;
+        size_t count = class_room;
+        class_room = class_room * 2 + 1024;
+        classes = zeros(class_room, sizeof *classes);
+        for (size_t i = 0; i < count; i++)
+            if (old[i].comm) {
+                class_count--;
+                *class_of(old[i].to, old[i].from, old[i].tag, old[i].comm) = old[i];
+            }
+        free(old);
     }
-    classes[k].count++;
+    size_t at = hash_of_message(from, to, tag, comm) % class_room;
+    for (; classes[at].comm; at = (at + 1) % class_room)
+        if (classes[at].to == to && classes[at].from == from && classes[at].tag == tag && classes[at].comm == comm) return classes + at;
+    classes[at] = (struct class){to, from, tag, comm, from, 0, 0};
+    class_count++;
+    return classes + at;
 }
 
-static void find_classes(int to, int phase) {
-    class_count = 0;
-    for (int r = 0; r < rank_count; r++)
-        for (int i = 0; i < lines[r].count; i++) {
-            const struct line *line = lines[r].at + i;
-            if (!in_phase(line, phase) || line->peer != to || !line->comm) continue;
-            if (line->word <= W_IBSEND || line->word == W_SENDRECV) add_to_class(r, line);
-        }
+static int is_send(const struct line *line) { return line->word <= W_IBSEND || line->word == W_SENDRECV; }
+static int is_finder(const struct line *line) { return line->word == W_SENDRECV || (line->word >= W_RECV && line->word <= W_MPROBE); }
+static int source_of(const struct line *line) { return line->word == W_SENDRECV ? line->peer2 : line->peer; }
+static int tag_of(const struct line *line) { return line->word == W_SENDRECV ? line->tag2 : line->tag; }
+
+static void add_send(int rank, const struct line *line, const int *wanted) {
+    for (int wild = 0; wild < 4; wild++) {
+        if (!wanted[wild]) continue;
+        struct class *class = class_of(line->peer, wild & 1 ? ANY : rank, wild & 2 ? ANY : line->tag, line->comm);
+        if (!class->count++) class->first = rank;
+        class->several |= class->first != rank;
+    }
 }
 
-/* How many sends a receive or probe of the rank whose classes were found fits, and whether they may be of several ranks. */
-static void count_finder(struct text *text, const struct line *line) {
-    int both = line->word == W_SENDRECV, from = both ? line->peer2 : line->peer, tag = both ? line->tag2 : line->tag;
-    int first = NOBODY, several = 0;
+static void count_finder(struct text *text, int rank, const struct line *line) {
     if (!line->comm) {
         text->pairs++;
         return;
     }
-    for (int k = 0; k < class_count; k++) {
-        const struct class *class = classes + k;
-        if ((from != ANY && class->from != from) || (tag != ANY && class->tag != tag) || strcmp(class->comm, line->comm)) continue;
-        text->pairs += class->count;
-        several |= first != NOBODY && class->from != first;
-        first = class->from;
-    }
+    int from = source_of(line), tag = tag_of(line);
+    const struct class *class = class_of(rank, from, tag, line->comm);
+    text->pairs += class->count;
     text->wild += from == ANY || tag == ANY;
-    text->choices += several;
+    text->choices += class->several;
+    if (!class->several || !line->call->asked) return;
+    if (!text->asked++) text->first_asked = line->call, text->asked_rank = rank;
 }
 
 static void count_pairs(struct text *text, int phase) {
-    for (int r = 0; r < rank_count; r++) {
-        find_classes(r, phase);
-        for (int i = 0; i < lines[r].count; i++) {
-            const struct line *line = lines[r].at + i;
-            int finds = line->word == W_SENDRECV || (line->word >= W_RECV && line->word <= W_MPROBE);
-            if (finds && in_phase(line, phase)) count_finder(text, line);
-        }
-    }
+    int wanted[4] = {0};
+    memset(classes, 0, class_room * sizeof *classes);
+    class_count = 0;
+    for (int pass = 0; pass < 3; pass++)
+        for (int r = 0; r < rank_count; r++)
+            for (int i = 0; i < lines[r].count; i++) {
+                const struct line *line = lines[r].at + i;
+                if (!in_phase(line, phase)) continue;
+                if (pass == 0 && is_finder(line)) wanted[(source_of(line) == ANY) + 2 * (tag_of(line) == ANY)] = 1;
+                if (pass == 1 && is_send(line) && line->comm) add_send(r, line, wanted);
+                if (pass == 2 && is_finder(line)) count_finder(text, r, line);
+            }
+}
+
+static void note_choices(const struct text *text) {
+    if (text->asked)
+        note("one path: %ld receives or probes may find messages of several ranks, and the program asks which one it was (first rank %d in %s): where "
+             "what it does next depends on that, this text is not the program", text->asked, text->asked_rank,
+             place_of(ranks + text->asked_rank, text->first_asked));
 }
 
 void free_text(struct text *text) {
     free(text->bytes), free(text->map);
-    free(text->comms.keys), free(text->comms.numbers), free(text->tags.keys), free(text->tags.numbers);
+    free(text->comms.keys), free(text->comms.places), free(text->tags.keys), free(text->tags.places);
+    free(text->used_tags), free(text->other_tags);
 }
 
 /* The lines of a rank; requests and handles are numbered in the order in which they come. */
 static void put_rank(FILE *file, FILE *map, struct text *text, int rank, int phase) {
-    int *names = zeros((size_t)names_of(rank), sizeof *names), named = 0;
+    static int *names, names_for;
+    int named = 0;
+    if (names_for < names_of(rank)) {
+        names = room(names, sizeof *names * (size_t)names_of(rank));
+        memset(names + names_for, 0, sizeof *names * (size_t)(names_of(rank) - names_for));
+        names_for = names_of(rank);
+    }
     fprintf(file, "rank %d\n", rank);
     text->lines++;
     for (int i = 0; i < lines[rank].count; i++) {
@@ -178,14 +306,37 @@ static void put_rank(FILE *file, FILE *map, struct text *text, int rank, int pha
         if (text->plain) put_map_line(map, text, rank, line);
         count_line(text, line);
     }
-    free(names);
+    for (int i = 0; i < lines[rank].count; i++)
+        if (is_start(lines[rank].at + i)) names[lines[rank].at[i].name] = 0;
 }
 
-static void put_map_head(FILE *map, const char *name) {
+static void put_map_head(FILE *map, const char *name, int phase) {
     fprintf(map, "text %s.mpi: %d ranks, recorded under %s, collectives with %s\n", name, rank_count, library,
             options.most ? "the most waiting that MPI allows: each is a barrier" : "the least waiting that MPI guarantees");
+    put_end(map, phase);
     for (int i = 0; i < note_count; i++) fprintf(map, "note: %s\n", notes[i]);
     put_files(map);
+}
+
+/* `comm NAME: ranks 0..3 7`, in the order of the communicator, and the name that the program gave. */
+static void put_group(FILE *map, const struct group *group) {
+    const int *m = group->members;
+    fprintf(map, "comm %s: ranks", group->name);
+    for (int i = 0, end; i < group->size; i = end) {
+        for (end = i + 1; end < group->size && m[end] == m[end - 1] + 1;) end++;
+        fprintf(map, end > i + 2 ? " %d..%d" : end > i + 1 ? " %d %d" : " %d", m[i], m[end - 1]);
+    }
+    if (group->given) fprintf(map, ", named %s", group->given);
+    fprintf(map, "\n");
+}
+
+static void put_map_tail(FILE *map, const struct text *text) {
+    for (int g = 0; g < group_count; g++) {
+        if (groups[g]->told) put_group(map, groups[g]);
+        groups[g]->told = 0;
+    }
+    for (int i = 0; i < text->comms.count; i++) fprintf(map, "comm %d: %s\n", i + 1, (const char *)text->comms.keys[i]);
+    for (int i = 0; i < text->tags.count; i++) fprintf(map, "tag %d: %zu in the program\n", text->other_tags[i], text->tags.keys[i]);
 }
 
 /* The tags of collectives are counted anew in each text. */
@@ -193,8 +344,7 @@ static void forget_tags(int phase) {
     for (int r = 0; r < rank_count; r++)
         for (int i = 0; i < lines[r].count; i++) {
             const struct line *line = lines[r].at + i;
-            int has_number = !line->comm && line->word != W_WAIT && line->word != W_MRECV && line->word != W_IMRECV;
-            if (has_number && in_phase(line, phase)) tag_numbers[line->tag] = -1;
+            if (!line->comm && has_envelope(line) && in_phase(line, phase)) tag_numbers[line->tag] = -1;
         }
 }
 
@@ -207,13 +357,17 @@ struct text make_text(int phase, int plain, const char *name) {
     }
     FILE *file = open_memstream(&text.bytes, &text.size), *map = open_memstream(&text.map, &text.map_size);
     if (!file || !map) fail(70, "out of memory");
+    if (plain) find_tags(&text, phase);
     fprintf(file, "ranks %d\npolicy %s\n", rank_count, options.policy);
     text.lines = 2;
-    if (plain) put_map_head(map, name);
+    if (plain) {
+        count_pairs(&text, phase);
+        if (phase < 0) note_choices(&text);
+        put_map_head(map, name, phase);
+    }
     for (int r = 0; r < rank_count; r++) put_rank(file, map, &text, r, phase);
     forget_tags(phase);
-    for (int i = 0; i < text.comms.count && plain; i++) fprintf(map, "comm %d: %s\n", i + 1, (const char *)text.comms.keys[i]);
-    for (int i = 0; i < text.tags.count && plain; i++) fprintf(map, "tag %d: %ld in the program\n", MOST_TAG - i, text.tags.numbers[i]);
+    if (plain) put_map_tail(map, &text);
     int failed = ferror(file) || ferror(map);
     if (fclose(file) || fclose(map) || failed) fail(70, "out of memory");
     if (plain && text.comms.count > 254 - text.collective_count / (MOST_TAG + 1)) fail(3, "more than 254 communicators in a text");
@@ -264,9 +418,10 @@ static void tell_text(const char *name, const struct text *text) {
 
 void write_text(const char *name, int phase, const char *suffix) {
     struct text text = make_text(phase, 1, name);
-    count_pairs(&text, phase);
     write_file(name, "mpi", text.bytes, text.size);
     write_map(name, &text);
+    for (int i = 0; i < note_count && phase < 0; i++) printf("note: %s\n", notes[i]);
+    if (phase < 0) tell_end();
     tell_text(name, &text);
     printf("%s\n", suffix);
     free_text(&text);

@@ -1,0 +1,17 @@
+/* Rank 1 may write no more files from its first call on, as on a full disk. */
+#include <mpi.h>
+#include <signal.h>
+#include <sys/resource.h>
+
+int main(int argc, char **argv) {
+    int rank;
+    struct rlimit none = {0, 0};
+    MPI_Init(&argc, &argv);
+    MPI_Comm_rank(MPI_COMM_WORLD, &rank);
+    MPI_Barrier(MPI_COMM_WORLD);
+    signal(SIGXFSZ, SIG_IGN);
+    if (rank == 1) setrlimit(RLIMIT_FSIZE, &none);
+    MPI_Barrier(MPI_COMM_WORLD);
+    MPI_Finalize();
+    return 0;
+}
