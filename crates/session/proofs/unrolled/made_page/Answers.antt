@@ -11,7 +11,7 @@ returns-in_ok-write_map-in-None-clause-written g c =
     let held = g.F.FileSet.held c.args.files.now in (
       held,
       subst (λ (out : Option (Bor (List ℕ))). IsWritten g.F.FileSet.tells_written held held (path_of out) c.args.made.program.items) (sym c.in-None.is) refl,
-      c.write_map-in-None.ensures.others,
+      c.write_map.ensures.others,
       c.in_ok-write_map-in-None.ensures.written,
     )
 
