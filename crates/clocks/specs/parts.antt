@@ -1,3 +1,4 @@
 pub mod Clocks
 pub mod Exact
 pub mod Finders
+pub mod Spans

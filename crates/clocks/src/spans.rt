@@ -1,12 +1,13 @@
 //! Blocks: spans of calls of one rank, from a first receive or matched probe up to a last one.
 
-ghost use Rattle.std.specs.Prelude.{◌≡◌, ◌≤◌, ◌<◌, ◌^◌, ℕ, IfOk, IfSome, IsTrue, false};
-ghost use Rattle.callorder.specs.Programs.{call_at, are_fit, are_of_one_rank};
-ghost use Rattle.races.specs.Blocks.{IsPrompt, is_finder};
-ghost use Rattle.clocks.specs.Spans.{is_done_at_once_call, returns_at_once, is_receive_call, IsWaitFor, WaitsWithin, IsMember, IsJoined, IsNamed, AreSpans};
-ghost use Rattle.clocks.specs.parts.Clocks.{block_of, IsSingle};
+ghost use Rattle.std.specs.Prelude.{◌≡◌, ◌≤◌, ◌<◌, ◌+◌, ◌^◌, ◌↔◌, ℕ, IfNone, IfOk, IfSome, IsTrue, Some, false, length, slice_set};
+ghost use Rattle.callorder.specs.Programs.{call_at, are_of_one_rank};
+ghost use Rattle.races.specs.Blocks.{is_finder};
+ghost use Rattle.clocks.specs.Spans.{AreSpans, AreWidest, FetchesAtOnce, IsReceivedAtOnce, IsWaitFor, MayBegin, MayFollow, WaitsFrom, is_done_at_once_call, is_receive_call, pattern_at, returns_at_once};
+ghost use Rattle.clocks.specs.parts.Clocks.{IsSingle, block_of};
+ghost use Rattle.clocks.specs.parts.Spans.{AreNamedUpTo, AreNamedWith, IsClosed, IsLonger, IsOpenSpan, IsWithin, first_sender};
 
-use callorder::{Kind, LongProgram};
+use callorder::{Kind, LongProgram, Pattern};
 use calltext::Mode;
 use semantics::State;
 use std::alloc::{AllocError, Global};
@@ -21,34 +22,27 @@ pub fn name(names: &[usize], call: usize) -> usize
 
 /// Whether the operation is done as soon as it is issued.
 fn is_done_at_once(program: &LongProgram, operation: usize) -> bool
-    ensures { IsTrue result → IsTrue (is_done_at_once_call (call_at program.now operation)) }
+    ensures { result ≡ is_done_at_once_call (call_at program.now operation) }
 {
     let Some(known) = program.call(operation) else {
         return false;
     };
     match known.kind {
-        Kind::Send {
-            mode: Mode::Buffered,
-            ..
-        }
-        | Kind::MatchedReceive { .. } => true,
+        Kind::Send { mode, .. } => mode == Mode::Buffered,
+        Kind::MatchedReceive { .. } => true,
         _ => false,
     }
 }
 
 /// Whether the call returns at once, whatever happens.
 fn returns_at_once(program: &LongProgram, call: usize) -> bool
-    ensures { IsTrue result → IsTrue (returns_at_once program.now call) }
+    ensures { result ≡ returns_at_once program.now call }
 {
     let Some(known) = program.call(call) else {
         return false;
     };
     match known.kind {
-        Kind::Send {
-            mode: Mode::Buffered,
-            ..
-        } => true,
-        Kind::Send { blocking, .. } => !blocking,
+        Kind::Send { mode, blocking, .. } => !blocking || mode == Mode::Buffered,
         Kind::Receive { blocking, .. } => !blocking,
         Kind::MatchedReceive { .. } => true,
         Kind::Wait { operation } => is_done_at_once(program, operation),
@@ -58,7 +52,8 @@ fn returns_at_once(program: &LongProgram, call: usize) -> bool
 
 /// Whether each call from one place up to another returns at once.
 fn return_at_once(program: &LongProgram, first: usize, end: usize) -> bool
-    ensures { IsTrue result → (c : ℕ) → first ≤ c → c < end → IsTrue (returns_at_once program.now c) }
+    ensures all { IsTrue result → (c : ℕ) → first ≤ c → c < end → IsTrue (returns_at_once program.now c) }
+    ensures some { result ≡ false → (c : ℕ) × (first ≤ c) × (c < end) × (returns_at_once program.now c ≡ false) }
 {
     for call in first..end {
         if !returns_at_once(program, call) {
@@ -70,8 +65,8 @@ fn return_at_once(program: &LongProgram, first: usize, end: usize) -> bool
 
 /// Whether the call is a receive, or a matched probe from which up to the receive on its handle
 /// each call returns at once.
-fn is_prompt(program: &LongProgram, call: usize) -> bool
-    ensures { IsTrue result → IsPrompt program.now call }
+fn fetches_at_once(program: &LongProgram, call: usize) -> bool
+    ensures { IsTrue result ↔ FetchesAtOnce program.now call }
 {
     let Some(known) = program.call(call) else {
         return false;
@@ -86,8 +81,7 @@ fn is_prompt(program: &LongProgram, call: usize) -> bool
 /// Whether the receive is of the rank of the probe and behind it, and each call between them
 /// returns at once.
 fn is_received_at_once(program: &LongProgram, probe: usize, receive: usize) -> bool
-    ensures { IsTrue result → (probe < receive) × IsTrue (are_of_one_rank program.now probe receive) ×
-        ((c : ℕ) → probe < c → c < receive → IsTrue (returns_at_once program.now c)) }
+    ensures { IsTrue result ↔ IsReceivedAtOnce program.now probe receive }
 {
     if receive <= probe {
         return false;
@@ -98,34 +92,26 @@ fn is_received_at_once(program: &LongProgram, probe: usize, receive: usize) -> b
     return_at_once(program, probe + 1, receive)
 }
 
+/// What the call finds, where it is a receive, a matched probe or a probe.
+fn pattern_at(program: &LongProgram, call: usize) -> Option<Pattern>
+    ensures { result ≡ pattern_at program.now call }
+{
+    match program.call(call) {
+        None => None,
+        Some(known) => known.kind.pattern(),
+    }
+}
+
 /// Whether the call is a receive, a matched probe or a probe.
 fn is_finder(program: &LongProgram, call: usize) -> bool
     ensures { result ≡ is_finder program.now call }
 {
-    match program.call(call) {
-        None => false,
-        Some(known) => known.kind.pattern().is_some(),
-    }
-}
-
-/// Whether the two are of one rank and have the same pattern.
-fn are_alike(program: &LongProgram, one: usize, other: usize) -> bool
-    ensures { IsTrue result → (s : ℕ) → are_fit program.now s one ≡ are_fit program.now s other }
-{
-    match program.call(one) {
-        None => false,
-        Some(first) => match program.call(other) {
-            None => false,
-            Some(second) => {
-                first.rank == second.rank && first.kind.pattern() == second.kind.pattern()
-            }
-        },
-    }
+    pattern_at(program, call).is_some()
 }
 
 /// Whether the call is a receive.
 fn is_receive(program: &LongProgram, call: usize) -> bool
-    ensures { IsTrue result → IsTrue (is_receive_call (call_at program.now call)) }
+    ensures { result ≡ is_receive_call (call_at program.now call) }
 {
     match program.call(call) {
         None => false,
@@ -135,7 +121,8 @@ fn is_receive(program: &LongProgram, call: usize) -> bool
 
 /// The receive that the call waits for, if it is a wait for one.
 fn awaited(program: &LongProgram, call: usize) -> Option<usize>
-    ensures { IfSome result (λ receive. IsWaitFor program.now call receive) }
+    ensures some { IfSome result (λ receive. IsWaitFor program.now call receive) }
+    ensures none { IfNone result ((receive : ℕ) → IsWaitFor program.now call receive → ⊥) }
 {
     let Some(known) = program.call(call) else {
         return None;
@@ -152,65 +139,28 @@ fn awaited(program: &LongProgram, call: usize) -> Option<usize>
     }
 }
 
-/// Whether the call waits for a receive before it in its span.
-fn waits_within(program: &LongProgram, names: &[usize], call: usize) -> bool
-    ensures { IsTrue result → WaitsWithin program.now (block_of names.now) call }
+/// Whether the call waits for a receive before it, from a place on.
+fn waits_from(program: &LongProgram, first: usize, call: usize) -> bool
+    ensures { IsTrue result ↔ WaitsFrom program.now first call }
 {
-    match awaited(program, call) {
-        None => false,
-        Some(receive) => receive < call && name(names, receive) == name(names, call),
-    }
+    let Some(receive) = awaited(program, call) else {
+        return false;
+    };
+    first <= receive && receive < call
 }
 
-/// Whether the call may stand in its span.
-fn is_member(program: &LongProgram, names: &[usize], call: usize) -> bool
-    ensures { IsTrue result → IsMember program.now (block_of names.now) call }
+/// Whether the call may stand in a span with this first call.
+fn may_follow(program: &LongProgram, first: usize, call: usize) -> bool
+    ensures { IsTrue result ↔ MayFollow program.now first call }
 {
+    if !program.are_of_one_rank(first, call) {
+        return false;
+    }
     if is_finder(program, call) {
-        return is_prompt(program, call) && are_alike(program, call, name(names, call));
+        return fetches_at_once(program, call)
+            && pattern_at(program, first) == pattern_at(program, call);
     }
-    returns_at_once(program, call) || waits_within(program, names, call)
-}
-
-/// Whether the call and the next one may stand in one span.
-fn is_joined(program: &LongProgram, names: &[usize], call: usize) -> bool
-    requires { call < 2 ^ 63 }
-    ensures { IsTrue result → IsJoined program.now (block_of names.now) call }
-{
-    program.are_of_one_rank(call, call + 1)
-        && is_member(program, names, call)
-        && is_member(program, names, call + 1)
-}
-
-/// Whether the next call has its own place as its name, or that of this call, in the span of which
-/// it stands.
-fn is_named(program: &LongProgram, names: &[usize], call: usize) -> bool
-    requires { call < 2 ^ 63 }
-    ensures { IsTrue result → IsNamed program.now (block_of names.now) call }
-{
-    let next = name(names, call + 1);
-    if next == call + 1 {
-        return true;
-    }
-    if next != name(names, call) {
-        return false;
-    }
-    is_joined(program, names, call)
-}
-
-/// Whether these are names of spans.
-fn are_spans(program: &LongProgram, names: &[usize]) -> bool
-    ensures { IsTrue result → AreSpans program.now (block_of names.now) }
-{
-    if name(names, 0) != 0 {
-        return false;
-    }
-    for call in 0..names.len() {
-        if !is_named(program, names, call) {
-            return false;
-        }
-    }
-    true
+    returns_at_once(program, call) || waits_from(program, first, call)
 }
 
 /// A span that may still grow.
@@ -220,75 +170,93 @@ struct Span {
     first: usize,
     /// Its last receive or matched probe.
     last: usize,
+    /// A send whose message one of them has found.
+    sender: Option<usize>,
     /// Whether its messages came from more than one rank.
     mixed: bool,
 }
 
-/// Whether the call finds messages of any source.
-fn is_of_any_source(program: &LongProgram, call: usize) -> bool {
-    let Some(known) = program.call(call) else {
+/// Whether a span may begin with the call.
+fn may_begin(program: &LongProgram, call: usize) -> bool
+    ensures { IsTrue result ↔ MayBegin program.now call }
+{
+    let Some(pattern) = pattern_at(program, call) else {
         return false;
     };
-    match known.kind.pattern() {
-        None => false,
-        Some(pattern) => pattern.source.is_none(),
-    }
+    pattern.source.is_none() && fetches_at_once(program, call)
 }
 
 /// The span that begins with the call, if one may.
-fn begun(program: &LongProgram, call: usize) -> Option<Span> {
-    if is_of_any_source(program, call) && is_prompt(program, call) {
-        Some(Span {
-            first: call,
-            last: call,
-            mixed: false,
-        })
-    } else {
-        None
+fn begun(program: &LongProgram, state: &State, call: usize) -> Option<Span>
+    requires { call < 2 ^ 63 }
+    ensures some { IfSome result (λ span. IsOpenSpan program.now state.now (call + 1) span × (span.first ≡ call)) }
+    ensures none { IfNone result (MayBegin program.now call → ⊥) }
+{
+    if !may_begin(program, call) {
+        return None;
     }
+    Some(Span {
+        first: call,
+        last: call,
+        sender: state.partner(call),
+        mixed: false,
+    })
 }
 
-/// Whether messages of two ranks were found by the two.
-fn are_mixed(program: &LongProgram, state: &State, one: usize, other: usize) -> bool {
-    match (state.partner(one), state.partner(other)) {
-        (Some(first), Some(second)) => !program.are_of_one_rank(first, second),
+/// Whether the messages of two sends, where there are two, are of two ranks.
+fn are_mixed(program: &LongProgram, one: Option<usize>, other: Option<usize>) -> bool
+    ensures { result ≡ false → (a b : ℕ) → one ≡ Some a → other ≡ Some b → IsTrue (are_of_one_rank program.now a b) }
+{
+    match (one, other) {
+        (Some(one), Some(other)) => !program.are_of_one_rank(one, other),
         _ => false,
     }
 }
 
-/// Whether the call, which is no receive and no probe, may stand in the span.
-fn is_between(program: &LongProgram, span: &Span, call: usize) -> bool {
-    if returns_at_once(program, call) {
-        return true;
+/// The span with this call, which stands behind it, if it may.
+fn grown(program: &LongProgram, state: &State, span: Span, call: usize) -> Option<Span>
+    requires { IsOpenSpan program.now state.now call span }
+    ensures some { IfSome result (λ next. IsOpenSpan program.now state.now (call + 1) next × (next.first ≡ span.first)) }
+    ensures none { IfNone result (MayFollow program.now span.first call → ⊥) }
+{
+    if !may_follow(program, span.first, call) {
+        return None;
     }
-    match awaited(program, call) {
-        None => false,
-        Some(receive) => span.first <= receive,
+    if !is_finder(program, call) {
+        return Some(span);
+    }
+    Some(longer(program, span, state.partner(call), call))
+}
+
+/// The span with a call behind it that has found this message.
+fn longer(program: &LongProgram, span: Span, found: Option<usize>, call: usize) -> Span
+    ensures { IsLonger program.now span result found call }
+{
+    Span {
+        first: span.first,
+        last: call,
+        sender: first_sender(span.sender, found),
+        mixed: span.mixed || are_mixed(program, span.sender, found),
     }
 }
 
-/// The span with this call, which stands behind it, if it may.
-fn grown(program: &LongProgram, state: &State, span: Span, call: usize) -> Option<Span> {
-    if !is_finder(program, call) {
-        return if program.are_of_one_rank(span.first, call) && is_between(program, &span, call) {
-            Some(span)
-        } else {
-            None
-        };
+/// The first of two sends that is there.
+fn first_sender(one: Option<usize>, other: Option<usize>) -> Option<usize>
+    ensures { result ≡ first_sender one other }
+{
+    match one {
+        None => other,
+        Some(send) => Some(send),
     }
-    if is_prompt(program, call) && are_alike(program, call, span.first) {
-        return Some(Span {
-            first: span.first,
-            last: call,
-            mixed: span.mixed || are_mixed(program, state, span.first, call),
-        });
-    }
-    None
 }
 
 /// Names the calls of the span by its first one. A span whose messages all come from one rank is
 /// left as it is: no other send of that rank races for a receive that is a block of its own.
-fn close(names: &mut Vec<usize>, span: Option<Span>) {
+fn close(names: &mut Vec<usize>, span: Option<Span>)
+    requires { IsWithin (length names.old.items) span }
+    ensures count { length names.new.items ≡ length names.old.items }
+    ensures names { IsClosed span (block_of names.old.items) (block_of names.new.items) }
+{
     let Some(span) = span else {
         return;
     };
@@ -296,58 +264,57 @@ fn close(names: &mut Vec<usize>, span: Option<Span>) {
         return;
     }
     for place in span.first..span.last {
-        if let Some(slot) = names.get_mut(place + 1) {
-            *slot = span.first;
-        }
+        rename(names, place + 1, span.first);
     }
 }
 
-/// For each call the place of the first call of its span. The only error is want of memory.
-fn first_names(
-    alloc: Global,
+fn rename(names: &mut Vec<usize>, place: usize, first: usize)
+    ensures { names.new.items ≡ slice_set names.old.items place first }
+{
+    if let Some(name) = names.get_mut(place) {
+        *name = first;
+    }
+}
+
+/// The growing span behind one more call, and the names behind those that were closed.
+fn go_on(
+    names: &mut Vec<usize>,
     program: &LongProgram,
     state: &State,
-) -> Result<Vec<usize>, AllocError> {
-    let mut names: Vec<usize> = Vec::new(alloc);
-    let mut open: Option<Span> = None;
-    for place in 0..program.calls().len() {
-        names.push(place)?;
-        let longer = match open {
-            None => None,
-            Some(span) => grown(program, state, span, place),
-        };
-        if longer.is_none() {
-            close(&mut names, open);
-            open = begun(program, place);
-        } else {
-            open = longer;
+    growing: Option<Span>,
+    place: usize,
+) -> Option<Span>
+    requires small { place < 2 ^ 63 }
+    requires named { AreNamedWith program.now state.now place names.old.items growing }
+    ensures { AreNamedUpTo program.now state.now (place + 1) names.new.items result }
+{
+    if let Some(span) = growing {
+        if let Some(longer) = grown(program, state, span, place) {
+            return Some(longer);
         }
     }
-    close(&mut names, open);
-    Ok(names)
+    close(names, growing);
+    begun(program, state, place)
 }
 
-/// These names, where they are right, and else none: each call is a block of its own then.
-fn or_none(alloc: Global, program: &LongProgram, names: Vec<usize>) -> Vec<usize>
-    ensures { AreSpans program.now (block_of result.items) }
-{
-    if are_spans(program, names.as_slice()) {
-        return names;
-    }
-    Vec::new(alloc)
-}
-
-/// A name for the block of each call, by what was found at the end of a run. The only error is want
-/// of memory.
+/// A name for the block of each call, the place of the first call of its span, by what was found at
+/// the end of a run. Spans are as wide as they may be. The only error is want of memory.
 pub fn names_of(
     alloc: Global,
     program: &LongProgram,
     state: &State,
 ) -> Result<Vec<usize>, AllocError>
-    ensures { IfOk result (λ names. AreSpans program.now (block_of names.items)) }
+    ensures spans { IfOk result (λ names. AreSpans program.now (block_of names.items)) }
+    ensures widest { IfOk result (λ names. AreWidest program.now state.now (block_of names.items)) }
 {
-    let names = first_names(alloc, program, state)?;
-    Ok(or_none(alloc, program, names))
+    let mut names: Vec<usize> = Vec::new(alloc);
+    let mut growing: Option<Span> = None;
+    for place in 0..program.calls().len() {
+        names.push(place)?;
+        growing = go_on(&mut names, program, state, growing, place);
+    }
+    close(&mut names, growing);
+    Ok(names)
 }
 
 /// Names by which each call is a block of its own.
