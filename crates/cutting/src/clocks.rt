@@ -36,8 +36,10 @@ struct Clocks {
     /// For each rank and each column the place up to which the column's rank is known to have
     /// returned from its calls.
     known: Vec<Vec<usize>>,
-    /// What was known where a call was issued that others learn from.
+    /// What was known where a call was issued, while others will learn from it.
     issued: Vec<Option<Vec<usize>>>,
+    /// For each call how often others will still learn from its issue.
+    readings: Vec<usize>,
     /// The last send on each route.
     last: HashMap<Route, usize>,
 }
@@ -143,15 +145,18 @@ impl Known {
         }
     }
 
-    /// Whether others may learn from the issue of this call.
-    fn is_heard(&self, program: &LongProgram, place: usize) -> bool {
-        let Some(call) = program.call(place) else {
-            return false;
-        };
-        if call.kind.message().is_some() {
-            return self.sure_taker(program, place).is_some();
+    /// For each call how often others will learn from its issue.
+    fn readings(&self, alloc: Global, program: &LongProgram) -> Result<Vec<usize>, AllocError> {
+        let mut readings = vec![in alloc; 0; program.calls().len()]?;
+        for place in 1..program.calls().len() {
+            if program.are_of_one_rank(place - 1, place) {
+                if let Some(other) = self.returned(program, place - 1) {
+                    let more = at(&readings, other).saturating_add(1);
+                    put(&mut readings, other, more);
+                }
+            }
         }
-        self.sure_send(place, &call).is_some()
+        Ok(readings)
     }
 }
 
@@ -162,6 +167,7 @@ impl Clocks {
             next: first_calls(alloc, program)?,
             known: Vec::with_capacity(alloc, ranks)?,
             issued: Vec::with_capacity(alloc, program.calls().len())?,
+            readings: known.readings(alloc, program)?,
             last: last_sends(alloc, program, &known.columns)?,
         };
         for _rank in 0..ranks {
@@ -224,7 +230,7 @@ impl Clocks {
         };
         if self.last_of(&route) > place {
             needs.edges.push(Edge {
-                from: finder.place,
+                from: *finder,
                 to: place,
             })?;
         }
@@ -241,14 +247,29 @@ impl Clocks {
         other: usize,
         needs: &mut Needs,
     ) -> Result<(), AllocError> {
-        let heard = match self.issued.get(other) {
-            Some(Some(heard)) => Vec::from_slice(alloc, heard)?,
-            _ => Vec::new(alloc),
-        };
+        let heard = self.read(alloc, other)?;
         for number in 0..heard.len() {
             self.learn(columns, call, place, number, at(&heard, number), needs)?;
         }
         Ok(())
+    }
+
+    /// What was known where the call was issued, which is let go after the last reading.
+    fn read(&mut self, alloc: Global, call: usize) -> Result<Vec<usize>, AllocError> {
+        let left = at(&self.readings, call).saturating_sub(1);
+        put(&mut self.readings, call, left);
+        match self.issued.get_mut(call) {
+            Some(issued) => {
+                if left == 0 {
+                    return Ok(issued.take().unwrap_or(Vec::new(alloc)));
+                }
+                match issued {
+                    None => Ok(Vec::new(alloc)),
+                    Some(heard) => Vec::from_slice(alloc, heard),
+                }
+            }
+            None => Ok(Vec::new(alloc)),
+        }
     }
 
     /// Has the first finder that isn't known to have found need this send, where it is the last one
@@ -271,7 +292,7 @@ impl Clocks {
         };
         let known = self.known_of(call.rank, columns.number(message.destination));
         let first = count_up_to(&column.ends, known);
-        if let Some(finder) = column.fitting(first, message.communicator, message.tag) {
+        if let Some(finder) = columns.fitting(first, &message) {
             let edge = Edge {
                 from: finder,
                 to: place,
@@ -304,19 +325,12 @@ impl Clocks {
         }
         self.know(rank, known.columns.number(rank), place);
         self.send(&known.columns, &call, place, needs)?;
-        self.keep(alloc, program, known, rank, place)
+        self.keep(alloc, rank, place)
     }
 
-    /// Keeps what is known where a call is issued that others learn from.
-    fn keep(
-        &mut self,
-        alloc: Global,
-        program: &LongProgram,
-        known: &Known,
-        rank: u32,
-        place: usize,
-    ) -> Result<(), AllocError> {
-        if !known.is_heard(program, place) {
+    /// Keeps what is known where a call is issued that others will learn from.
+    fn keep(&mut self, alloc: Global, rank: u32, place: usize) -> Result<(), AllocError> {
+        if at(&self.readings, place) == 0 {
             return Ok(());
         }
         let row = match self.known.get(rank as usize) {
