@@ -4,6 +4,7 @@
 use crate::finders::RankColumns;
 use crate::graph::{Edge, Needs};
 use crate::lists::{at, count_up_to, put};
+use crate::reaches::{Reach, merge, place_of};
 use crate::routes::Wildcards;
 use crate::tying::partner;
 use callorder::{Call, Kind, LongProgram, Message, Policy};
@@ -11,6 +12,7 @@ use calltext::Mode;
 use semantics::Step;
 use std::alloc::{AllocError, Global};
 use std::collections::HashMap;
+use std::mem;
 
 /// From where a message goes where, with its tag and communicator, or without these.
 #[derive(Clone, Copy, PartialEq, Eq, Hash)]
@@ -33,11 +35,10 @@ pub struct Known {
 struct Clocks {
     /// The next call of each rank.
     next: Vec<usize>,
-    /// For each rank and each column the place up to which the column's rank is known to have
-    /// returned from its calls.
-    known: Vec<Vec<usize>>,
+    /// For each rank what it has learnt of others.
+    known: Vec<Vec<Reach>>,
     /// What was known where a call was issued, while others will learn from it.
-    issued: Vec<Option<Vec<usize>>>,
+    issued: Vec<Vec<Reach>>,
     /// For each call how often others will still learn from its issue.
     readings: Vec<usize>,
     /// The last send on each route.
@@ -171,11 +172,10 @@ impl Clocks {
             last: last_sends(alloc, program, &known.columns)?,
         };
         for _rank in 0..ranks {
-            let row = vec![in alloc; 0; known.columns.columns.len()]?;
-            clocks.known.push(row)?;
+            clocks.known.push(Vec::new(alloc))?;
         }
         for _place in 0..program.calls().len() {
-            clocks.issued.push(None)?;
+            clocks.issued.push(Vec::new(alloc))?;
         }
         Ok(clocks)
     }
@@ -185,34 +185,33 @@ impl Clocks {
         self.last.get(route).copied().unwrap_or(0)
     }
 
-    fn known_of(&self, rank: u32, column: usize) -> usize {
+    /// How far a rank that issues the call at this place knows the rank of a column to be.
+    fn known_of(&self, columns: &RankColumns, rank: u32, place: usize, column: usize) -> usize {
+        if column == columns.number(rank) {
+            return place;
+        }
         match self.known.get(rank as usize) {
             None => 0,
-            Some(row) => at(row, column),
+            Some(known) => place_of(known, column),
         }
     }
 
-    fn know(&mut self, rank: u32, column: usize, place: usize) {
-        if let Some(row) = self.known.get_mut(rank as usize) {
-            put(row, column, place);
-        }
-    }
-
-    /// Learns at a call that has returned how far the rank of a column is.
+    /// Learns at a call that has returned that the rank of a column is further than it was known to
+    /// be.
     fn learn(
-        &mut self,
+        &self,
         columns: &RankColumns,
         call: &Call,
         place: usize,
-        number: usize,
-        more: usize,
+        old: usize,
+        new: Reach,
         needs: &mut Needs,
     ) -> Result<(), AllocError> {
-        let old = self.known_of(call.rank, number);
-        if more <= old || number == columns.number(call.rank) {
+        let number = new.column;
+        let more = new.place;
+        if number == columns.number(call.rank) {
             return Ok(());
         }
-        self.know(call.rank, number, more);
         let Some(column) = columns.columns.get(number) else {
             return Ok(());
         };
@@ -248,28 +247,31 @@ impl Clocks {
         needs: &mut Needs,
     ) -> Result<(), AllocError> {
         let heard = self.read(alloc, other)?;
-        for number in 0..heard.len() {
-            self.learn(columns, call, place, number, at(&heard, number), needs)?;
+        let Some(known) = self.known.get_mut(call.rank as usize) else {
+            return Ok(());
+        };
+        let old = mem::replace(known, Vec::new(alloc));
+        *known = merge(alloc, old.as_slice(), heard.as_slice())?;
+        for reach in heard {
+            let before = place_of(old.as_slice(), reach.column);
+            if before < reach.place {
+                self.learn(columns, call, place, before, reach, needs)?;
+            }
         }
         Ok(())
     }
 
     /// What was known where the call was issued, which is let go after the last reading.
-    fn read(&mut self, alloc: Global, call: usize) -> Result<Vec<usize>, AllocError> {
+    fn read(&mut self, alloc: Global, call: usize) -> Result<Vec<Reach>, AllocError> {
         let left = at(&self.readings, call).saturating_sub(1);
         put(&mut self.readings, call, left);
-        match self.issued.get_mut(call) {
-            Some(issued) => {
-                if left == 0 {
-                    return Ok(issued.take().unwrap_or(Vec::new(alloc)));
-                }
-                match issued {
-                    None => Ok(Vec::new(alloc)),
-                    Some(heard) => Vec::from_slice(alloc, heard),
-                }
-            }
-            None => Ok(Vec::new(alloc)),
+        let Some(issued) = self.issued.get_mut(call) else {
+            return Ok(Vec::new(alloc));
+        };
+        if left == 0 {
+            return Ok(mem::replace(issued, Vec::new(alloc)));
         }
+        Vec::from_slice(alloc, issued)
     }
 
     /// Has the first finder that isn't known to have found need this send, where it is the last one
@@ -290,7 +292,8 @@ impl Clocks {
         let Some(column) = columns.column(message.destination) else {
             return Ok(());
         };
-        let known = self.known_of(call.rank, columns.number(message.destination));
+        let number = columns.number(message.destination);
+        let known = self.known_of(columns, call.rank, place, number);
         let first = count_up_to(&column.ends, known);
         if let Some(finder) = columns.fitting(first, &message) {
             let edge = Edge {
@@ -323,22 +326,32 @@ impl Clocks {
                 self.hear(alloc, &known.columns, &call, before, other, needs)?;
             }
         }
-        self.know(rank, known.columns.number(rank), place);
         self.send(&known.columns, &call, place, needs)?;
-        self.keep(alloc, rank, place)
+        self.keep(alloc, &known.columns, rank, place)
     }
 
     /// Keeps what is known where a call is issued that others will learn from.
-    fn keep(&mut self, alloc: Global, rank: u32, place: usize) -> Result<(), AllocError> {
+    fn keep(
+        &mut self,
+        alloc: Global,
+        columns: &RankColumns,
+        rank: u32,
+        place: usize,
+    ) -> Result<(), AllocError> {
         if at(&self.readings, place) == 0 {
             return Ok(());
         }
-        let row = match self.known.get(rank as usize) {
-            None => Vec::new(alloc),
-            Some(row) => Vec::from_slice(alloc, row)?,
+        let Some(known) = self.known.get(rank as usize) else {
+            return Ok(());
+        };
+        let kept = if columns.column(rank).is_some() {
+            let column = columns.number(rank);
+            merge(alloc, known.as_slice(), &[Reach { column, place }])?
+        } else {
+            Vec::from_slice(alloc, known)?
         };
         if let Some(issued) = self.issued.get_mut(place) {
-            *issued = Some(row);
+            *issued = kept;
         }
         Ok(())
     }
