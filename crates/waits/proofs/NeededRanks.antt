@@ -78,11 +78,11 @@ no_fit sender taker None pattern none fit = true≢false (sym fit)
 no_fit sender taker (Some message) None none fit = true≢false (sym fit)
 no_fit sender taker (Some message) (Some pattern) none fit = absurd (cc)
 
-no_send_fit : (sender taker : ℕ) (message : Option Message) (pattern : Option Pattern) → message ≡ None → IsTrue (fits_between sender message taker pattern) → ⊥
+pub no_send_fit : (sender taker : ℕ) (message : Option Message) (pattern : Option Pattern) → message ≡ None → IsTrue (fits_between sender message taker pattern) → ⊥
 no_send_fit sender taker None pattern none fit = true≢false (sym fit)
 no_send_fit sender taker (Some message) pattern none fit = absurd (cc)
 
-sent_to : (sender taker : ℕ) (message : Message) (pattern : Option Pattern) → IsTrue (fits_between sender (Some message) taker pattern) → message.destination ≡ taker
+pub sent_to : (sender taker : ℕ) (message : Message) (pattern : Option Pattern) → IsTrue (fits_between sender (Some message) taker pattern) → message.destination ≡ taker
 sent_to sender taker message None fit = absurd (true≢false (sym fit))
 sent_to sender taker message (Some pattern) fit = eqb-true message.destination taker (and_parts _ _ (and_parts _ _ (and_parts _ _ fit).0).0).0
 
@@ -104,7 +104,7 @@ kind_looks (Send mode blocking own) pattern some = absurd (none-some pattern som
 kind_looks kind pattern some = refl
 
 -- what fits with a call of the program, by both calls
-fit_parts : (p : MpiProgram) (c e rank : ℕ) (known : Call) → call_at p c ≡ Some known → IsTrue (fits_with p c e) → IsTrue (is_of_rank (call_at p e) rank)
+pub fit_parts : (p : MpiProgram) (c e rank : ℕ) (known : Call) → call_at p c ≡ Some known → IsTrue (fits_with p c e) → IsTrue (is_of_rank (call_at p e) rank)
     → (other : Call) × (other.rank ≡ rank) × (IsTrue (both_hold fits (Some known) (Some other)) ⊎ IsTrue (both_hold fits (Some other) (Some known)))
 fit_parts p c e rank known there fit own =
     let other = own_rank (call_at p e) rank own in
