@@ -12,12 +12,12 @@ use Rattle.knowledge.proofs.Less.{union_justified}
 use Rattle.std.specs.declared.alloc.AllocError.{AllocError}
 use Rattle.clocks.specs.declared.rows.Count.{Count}
 use Rattle.clocks.specs.declared.race.Race.{Race}
-use Rattle.clocks.specs.parts.Clocks.{Numbering, AreTold, IsChecked, IsSingle}
+use Rattle.clocks.specs.parts.Clocks.{Numbering, AreOrdered, AreTold, IsChecked, IsSingle, level}
 use Rattle.clocks.specs.Clocks.{IsNoRace, IsUnordered}
-use Rattle.clocks.specs.parts.Exact.{Asked, IsAsked, IsColumn, IsOrdered, IsUnorderedBy, KnowsNoMore, Extends, ShowsFrom}
+use Rattle.clocks.specs.parts.Exact.{AreOrderedBy, Asked, IsAsked, IsColumn, IsOrdered, IsUnorderedBy, KnowsNoMore, Extends, ShowsFrom}
 use Rattle.clocks.specs.parts.Finders.{AreNoRaces, IsLookedAt, IsParting}
 use Rattle.clocks.proofs.Counts.{same_some}
-use Rattle.clocks.proofs.Levels.{SamePartners, or_left, or_right, justified_as}
+use Rattle.clocks.proofs.Levels.{SamePartners, level_justified, or_left, or_right, justified_as}
 use Rattle.clocks.proofs.Looks.{AreLookedAt, looked_between, one_more_place, one_more_send}
 
 told_within : (ns : Numbering) (told : List Count) (a b : Table) → KnowsNoMore a b → AreTold ns a told → AreTold ns b told
@@ -134,12 +134,17 @@ asked_now p partners seen finder known same justified greatest f is =
     subst (λ (z : ℕ). IsColumn p (with_partners partners) z known) (same_some finder f is)
     (subst (λ (z : List (Option ℕ)). IsColumn p (with_partners z) finder known) same (record { justified = justified; greatest = greatest }))
 
+pub ordered_by_level : (p : MpiProgram) (e : Configuration) (asked : List Race) (ordered : List Bool) (n : ℕ) → AreOrdered (level p e n) asked ordered → AreOrderedBy p e asked ordered
+ordered_by_level p e asked ordered n are place there =
+    let w = are place there in
+    record { race = w.race; there = w.there; ordered = record { knows = level p e n; justified = level_justified p e n; tells = w.tells } }
+
 pub told_ordered : (p : MpiProgram) (partners : List (Option ℕ)) (a : Asked) (finder c : ℕ) (r : Bool) → IsAsked p a → a.partners ≡ partners → a.finder ≡ Some finder → r ≡ unwrap_or (slice_get a.known c) false → r ≡ true → IsOrdered p (with_partners partners) c finder
 told_ordered p partners a finder c r asked same is told holds =
     subst (λ (z : List (Option ℕ)). IsOrdered p (with_partners z) c finder) same
     (record {
       knows = column_table finder a.known;
-      justified = (asked finder is).justified;
+      justified = (asked.column finder is).justified;
       tells = and_both (finder == finder) (entry_at a.known c) (eq-eqb finder finder refl) (sym told ∙ holds);
     })
 
@@ -150,7 +155,7 @@ not_true true c leads fails = absurd (let holds = leads refl in cc (holds, fails
 pub told_unordered : (p : MpiProgram) (partners : List (Option ℕ)) (a : Asked) (finder c : ℕ) (r : Bool) → IsAsked p a → a.partners ≡ partners → a.finder ≡ Some finder → r ≡ unwrap_or (slice_get a.known c) false → r ≡ false → IsUnorderedBy p (with_partners partners) c finder
 told_unordered p partners a finder c r asked same is told fails =
     subst (λ (z : List (Option ℕ)). IsUnorderedBy p (with_partners z) c finder) same
-    (λ knows justified. not_true (knows c finder) (entry_at a.known c) (λ k. (and_true (finder == finder) (entry_at a.known c) ((asked finder is).greatest knows justified c k)).1) (sym told ∙ fails))
+    (λ knows justified. not_true (knows c finder) (entry_at a.known c) (λ k. (and_true (finder == finder) (entry_at a.known c) ((asked.column finder is).greatest knows justified c k)).1) (sym told ∙ fails))
 
 -- so where each call is single
 pub unordered_if : (p : MpiProgram) (block : Blocks) (e sure : Configuration) (found : Option Race) → (((c : ℕ) → IsSingle block c) → SamePartners sure e) → IfSome found (IsUnordered p sure) → IfSome found (λ race. ((c : ℕ) → IsSingle block c) → IsUnordered p e race)

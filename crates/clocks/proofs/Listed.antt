@@ -1,6 +1,6 @@
 -- Finders for which a send may race, in a list, and how far counts reach in it.
-use Rattle.std.proofs.Common.{◌≡◌, ℕ, zero, suc, ◌+◌, ◌<◌, ◌≤◌, ◌⊎◌, inl, inr, Bool, true, false, not, ◌&&◌, ◌==◌, List, [], ◌∷◌, ◌++◌, length, slice_get, Option, Some, None, refl, sym, ap, ◌∙◌, subst, arith}
-use Rattle.std.proofs.lemmas.Bool.{cases_lt, eq-eqb, eqb-true}
+use Rattle.std.proofs.Common.{◌≡◌, ℕ, zero, suc, ◌+◌, ◌<◌, ◌≤◌, ◌⊎◌, inl, inr, Bool, true, false, get_or, ltb, not, ◌&&◌, ◌==◌, List, [], ◌∷◌, ◌++◌, length, slice_get, Option, Some, None, refl, sym, ap, ◌∙◌, subst, arith}
+use Rattle.std.proofs.lemmas.Bool.{cases_lt, eq-eqb, eqb-true, ltb-false, ltb-true}
 use Rattle.std.proofs.lemmas.List.{length_push}
 use Rattle.std.specs.Option.{unwrap_or}
 use Rattle.calltext.proofs.Conjunctions.{and_true}
@@ -12,7 +12,8 @@ use Rattle.callorder.specs.Programs.{MpiProgram, call_at, have_one_rank}
 use Rattle.semantics.specs.Machine.{Configuration, partner_of}
 use Rattle.races.specs.Blocks.{Blocks}
 use Rattle.std.proofs.lemmas.Nat.{mod_below}
-use Rattle.std.proofs.lemmas.Option.{slice_get_within}
+use Rattle.std.specs.List.Sorted.{IsNonDecreasingBy, IsPartitionPoint}
+use Rattle.std.proofs.lemmas.Option.{get_or_from_slice_get, slice_get-get_or, slice_get_within}
 use Rattle.std.specs.Global.{Vec}
 use Rattle.clocks.specs.declared.finders.Cover.{Cover}
 use Rattle.clocks.specs.declared.rows.Count.{Count}
@@ -20,7 +21,7 @@ use Rattle.clocks.proofs.Counts.{same_some}
 use Rattle.clocks.specs.parts.Clocks.{Numbering, IsCount, IsSingle}
 use Rattle.knowledge.specs.Knowledge.{with_partners}
 use Rattle.clocks.specs.Spans.{AreSpans}
-use Rattle.clocks.specs.parts.Finders.{CannotRace, mix, told, group_of_pattern, group_of_call, group_at, IsRising, IsPlaced, AreGroupedUpTo, AreEmptyGroups, IsPutIn, IsListing, IsNumbered, IsCover, IsCountedAt, IsWider, AreCoversOf, AreCovers, covers_in, covers_at}
+use Rattle.clocks.specs.parts.Finders.{CannotRace, mix, told, group_of_pattern, group_of_call, group_at, IsRising, IsPlaced, AreGroupedUpTo, AreEmptyGroups, IsPutIn, IsListing, IsNumbered, IsParting, IsCover, IsCountedAt, IsWider, AreCoversOf, AreCovers, covers_in, covers_at}
 use Rattle.clocks.proofs.Shown.{no_fellow, fits_within}
 
 -- ---- what no send races for
@@ -222,19 +223,21 @@ all_listed p block n groups all known =
 
 -- ---- parting a list that rises
 
-pub below_middle : (xs : List ℕ) (call m z : ℕ) → IsRising xs → slice_get xs m ≡ Some z → z < call → (i f : ℕ) → i < m + 1 → slice_get xs i ≡ Some f → f < call
-below_middle xs call m z rise at lt i f upto there =
-    elim (cases_lt i m) [
-      | inl below ↦ let small : f < z = rise i m f z below there at in omega (arith, small, lt)
-      | inr ge ↦ let same : i ≡ m = omega (arith, ge, upto) in let e = subst (λ (k : ℕ). slice_get xs k ≡ Some f) same there in let is : z ≡ f = same_some z f (sym at ∙ e) in omega (arith, is, lt)
+pub rising_sorted : (xs : List ℕ) → IsRising xs → IsNonDecreasingBy (λ y. y) xs
+rising_sorted xs rise i j d le within =
+    elim (cases_lt i j) [
+      | inl lt ↦ let below : get_or xs i d < get_or xs j d = rise i j (get_or xs i d) (get_or xs j d) lt (slice_get-get_or xs i d (omega (arith, lt, within))) (slice_get-get_or xs j d within) in omega (arith, below)
+      | inr ge ↦ let same : i ≡ j = omega (arith, le, ge) in subst (λ (z : ℕ). get_or xs i d ≤ get_or xs z d) same (omega arith)
     ]
 
-pub from_middle : (xs : List ℕ) (call m z : ℕ) → IsRising xs → slice_get xs m ≡ Some z → call ≤ z → (i f : ℕ) → m ≤ i → slice_get xs i ≡ Some f → call ≤ f
-from_middle xs call m z rise at le i f from there =
-    elim (cases_lt m i) [
-      | inl above ↦ let large : z < f = rise m i z f above at there in omega (arith, large, le)
-      | inr ge ↦ let same : i ≡ m = omega (arith, ge, from) in let e = subst (λ (k : ℕ). slice_get xs k ≡ Some f) same there in let is : z ≡ f = same_some z f (sym at ∙ e) in omega (arith, is, le)
-    ]
+pub parted : (xs : List ℕ) (call place : ℕ) → place ≤ length xs → IsPartitionPoint (λ y. ltb y call ≡ true) (λ y. ltb y call ≡ false) xs place → IsParting xs call place
+parted xs call place bound point =
+    record {
+      before = λ i f below there. subst (λ (z : ℕ). z < call) (get_or_from_slice_get xs i f 0 there) (ltb-true (get_or xs i 0) call (point.0 i 0 (omega arith) below));
+      behind = λ i f from there.
+          subst (λ (z : ℕ). call ≤ z) (get_or_from_slice_get xs i f 0 there)
+          (ltb-false (get_or xs i 0) call (point.1 i 0 from (slice_get_within xs i f there)));
+    }
 
 -- ---- covers
 

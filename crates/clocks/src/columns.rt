@@ -3,7 +3,7 @@
 ghost use Rattle.std.specs.Prelude.{◌≡◌, slice_get, slice_index};
 ghost use Rattle.clocks.specs.parts.Clocks.{IsRaised};
 
-use crate::reads::done_by_return;
+use crate::reads::{done_by_return, found_by_send};
 use callorder::LongProgram;
 use std::alloc::{AllocError, Global};
 use std::marker::Model;
@@ -11,14 +11,15 @@ use std::marker::Model;
 /// Where a finder is counted. Columns and numbers are from 0.
 #[derive(Clone, Copy)]
 pub struct Mark {
-    /// The column of its rank.
+    /// The column.
     pub column: usize,
     /// Its number among the finders of all columns.
     pub number: usize,
 }
 
-/// The finders of any source in the order in which each rank completes them, a column for each rank
-/// that has some.
+/// Finders in columns, a column for each rank that has some, in the order of the rank's calls whose
+/// returns tell that they have found: calls that wait for the finder itself, or for the send that it
+/// finds.
 #[derive(Drop)]
 pub struct Columns {
     starts: Vec<usize>,
@@ -46,14 +47,6 @@ fn completed(program: &LongProgram, call: usize) -> Option<usize> {
     }
 }
 
-/// Whether the finder's rank needs a column.
-fn is_of_needed(program: &LongProgram, needed: &[bool], finder: usize) -> bool {
-    match program.call(finder) {
-        None => false,
-        Some(call) => needed.get(call.rank as usize).copied().unwrap_or(false),
-    }
-}
-
 impl Columns {
     /// No columns.
     pub fn none(alloc: Global) -> Self {
@@ -65,30 +58,59 @@ impl Columns {
         }
     }
 
-    /// The columns of a program for these ranks. The only error is want of memory.
+    /// Those of these ranks, of finders of any source, by calls that wait for them. The only error
+    /// is want of memory.
     pub fn new(alloc: Global, program: &LongProgram, needed: &[bool]) -> Result<Self, AllocError> {
-        let calls = program.calls().len();
-        let mut columns = Columns {
-            starts: Vec::new(alloc),
-            listed: Vec::new(alloc),
-            marks: vec![in alloc; None; calls]?,
-            ranks: vec![in alloc; None; program.ranks() as usize]?,
-        };
-        for call in 0..calls {
+        let mut columns = Columns::with_room(alloc, program)?;
+        for call in 0..program.calls().len() {
             if let Some(finder) = completed(program, call) {
-                if is_of_needed(program, needed, finder) {
-                    columns.list(program, finder)?;
-                }
+                columns.list(program, needed, call, finder)?;
             }
         }
         Ok(columns)
     }
 
-    /// Counts the finder as the last one of its rank. The only error is want of memory.
-    fn list(&mut self, program: &LongProgram, finder: usize) -> Result<(), AllocError> {
-        let Some(call) = program.call(finder) else {
+    /// Those of these ranks, by calls that wait for sends. The only error is want of memory.
+    pub fn of_sends(
+        alloc: Global,
+        program: &LongProgram,
+        partners: &[Option<usize>],
+        needed: &[bool],
+    ) -> Result<Self, AllocError> {
+        let mut columns = Columns::with_room(alloc, program)?;
+        for call in 0..program.calls().len() {
+            if let Some(finder) = found_by_send(program, partners, call) {
+                columns.list(program, needed, call, finder)?;
+            }
+        }
+        Ok(columns)
+    }
+
+    /// No columns, with room for marks. The only error is want of memory.
+    fn with_room(alloc: Global, program: &LongProgram) -> Result<Self, AllocError> {
+        Ok(Columns {
+            starts: Vec::new(alloc),
+            listed: Vec::new(alloc),
+            marks: vec![in alloc; None; program.calls().len()]?,
+            ranks: vec![in alloc; None; program.ranks() as usize]?,
+        })
+    }
+
+    /// Counts the finder as the last one of the call's rank, where that one needs a column. The
+    /// only error is want of memory.
+    fn list(
+        &mut self,
+        program: &LongProgram,
+        needed: &[bool],
+        call: usize,
+        finder: usize,
+    ) -> Result<(), AllocError> {
+        let Some(call) = program.call(call) else {
             return Ok(());
         };
+        if needed.get(call.rank as usize).copied() != Some(true) {
+            return Ok(());
+        }
         let number = self.listed.len();
         let column = match self.column(call.rank) {
             Some(column) => column,

@@ -155,27 +155,12 @@ fn empty_groups(alloc: Global, count: usize) -> Result<Vec<Vec<usize>>, AllocErr
     Ok(groups)
 }
 
-/// The first place of the group, from `low` on and before `high`, whose finder is not before the
-/// call.
+/// The first place of the group whose finder is not before the call.
 fn place_of(group: &[usize], call: usize) -> usize
     requires { IsRising group.now }
     ensures { IsParting group.now call result }
 {
-    let mut low: usize = 0;
-    let mut high = group.len();
-    for step in 0..group.len() {
-        let _step = step;
-        if high <= low {
-            return low;
-        }
-        let middle = low + (high - low) / 2;
-        if group[middle] < call {
-            low = middle + 1;
-        } else {
-            high = middle;
-        }
-    }
-    low
+    group.partition_point(|finder| *finder < call)
 }
 
 impl Finders {
@@ -350,24 +335,25 @@ fn first_unknown(covers: &[Cover], count: &Count, place: usize) -> usize
         IsCount numbering known count.now.column count.now.count → (i finder : ℕ) → place ≤ i → i < result →
         slice_get calls i ≡ Some finder → IsTrue (known finder) }
 {
-    let mut low = place;
-    let mut high = covers.len();
-    for step in 0..64 {
-        let _step: usize = step;
-        if high <= low {
-            return low;
-        }
-        let middle = low + (high - low) / 2;
-        if is_counted_at(covers, middle, count) {
-            low = middle + 1;
-        } else {
-            high = middle;
-        }
+    let end = covers.partition_point(|cover| is_counted(cover, count));
+    if end <= place {
+        return place;
     }
-    low
+    if is_counted_at(covers, end - 1, count) {
+        end
+    } else {
+        place
+    }
 }
 
 impl Covers {
+    /// None.
+    pub fn none(alloc: Global) -> Self {
+        Covers {
+            covers: Vec::new(alloc),
+        }
+    }
+
     /// Those of the finders. The only error is want of memory.
     pub fn new(alloc: Global, columns: &Columns, finders: &Finders) -> Result<Self, AllocError>
         ensures { IfOk result (AreCovers columns.now finders.now) }

@@ -31,11 +31,16 @@
 //!
 //! Counts are kept of those ranks alone to which a send goes that neither its fit, nor its rank, nor
 //! its taker settles; where there is none, no row is made. Rows take the calls times these ranks in
-//! time, and in memory the calls, and these ranks for each call that is open at one time. Where the
-//! count doesn't tell, all that is known of the finder is asked for, which takes the calls in time
-//! and is kept until another finder is asked for. So of a race that is told no rule tells that the
-//! send is issued only where the finder has found. Of a send that the run hasn't issued nothing is
-//! asked; one that finishes has issued each.
+//! time, and in memory the calls, and these ranks for each call that is open at one time.
+//!
+//! Where the count doesn't tell, all that is known of the finder is asked for, which takes the calls
+//! in time. Only a call that waits for the finder, or for the send that it found, tells others that
+//! it has found. The count is of the former. So where the first finder that is asked for turns out
+//! to have found, finders are counted by the latter too, in columns of the ranks of the sends that
+//! they found, for as many races at a time as there are calls. What is left then is mostly one race,
+//! of whose finder all is asked for again. So of a race that is told no rule tells that the send is
+//! issued only where the finder has found. Of a send that the run hasn't issued nothing is asked;
+//! one that finishes has issued each.
 //! Ranks, and calls by their place in the program's list, count from 0.
 #![tactic(auto)]
 
@@ -48,6 +53,7 @@ mod race;
 mod reads;
 mod rows;
 mod spans;
+mod unsettled;
 
 pub use laws::spans_are_blocks;
 pub use race::{Race, first_race, shows_no_race};

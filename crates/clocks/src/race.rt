@@ -20,8 +20,9 @@ use crate::classes::{Classes, end_open};
 use crate::columns::Columns;
 use crate::exact::Exact;
 use crate::finders::{Covers, Finders, group_of};
-use crate::rows::{Count, told_of};
+use crate::rows::{Count, reaches, told_of};
 use crate::spans::{is_single, name, names_of, no_names};
+use crate::unsettled::{needed_ranks, note_first, note_next};
 use callorder::{LongProgram, Message};
 use knowledge::issue_order;
 use leastrun::names_sources;
@@ -36,28 +37,6 @@ pub struct Race {
     pub send: usize,
     /// The receive, matched probe or probe.
     pub finder: usize,
-}
-
-/// Whether the count tells that the finder has found.
-fn reaches(columns: &Columns, told: &Count, finder: usize) -> bool
-    ensures { IsTrue result → (known : ℕ → Bool) → IsCount columns.now known told.now.column told.now.count → IsTrue (known finder) }
-{
-    let Some(mark) = columns.mark(finder) else {
-        return false;
-    };
-    let Some(found) = columns.listed(mark.number) else {
-        return false;
-    };
-    if found != finder {
-        return false;
-    }
-    if mark.column != told.column || mark.number < columns.start(told.column) {
-        return false;
-    }
-    if told.count <= mark.number {
-        return false;
-    }
-    true
 }
 
 /// The count that is kept of the call.
@@ -137,7 +116,7 @@ fn is_no_race(
 }
 
 /// As `is_no_race`, of a finder that may have found nothing.
-fn is_no_race_if_found(
+pub fn is_no_race_if_found(
     program: &LongProgram,
     state: &State,
     columns: &Columns,
@@ -160,7 +139,13 @@ fn is_no_race_if_found(
 
 /// A place of the group of finders: all that stand before it, from this place on, are known to have
 /// found wherever the send is issued.
-fn first_unknown(told: &[Count], covers: &Covers, send: usize, group: usize, place: usize) -> usize
+pub fn first_unknown(
+    told: &[Count],
+    covers: &Covers,
+    send: usize,
+    group: usize,
+    place: usize,
+) -> usize
     ensures { (numbering : Numbering) (groups : List (Vec ℕ)) (knows : Table) → AreCovers numbering groups covers.now →
         AreTold numbering knows told.now → (i finder : ℕ) → place ≤ i → i < result →
         slice_get (group_at groups group) i ≡ Some finder → IsTrue (knows send finder) }
@@ -253,14 +238,14 @@ fn race_in_group(
 }
 
 /// The larger of two.
-fn larger(one: usize, other: usize) -> usize
+pub fn larger(one: usize, other: usize) -> usize
     ensures { (n : ℕ) → one ≤ n → other ≤ n → result ≤ n }
 {
     if one < other { other } else { one }
 }
 
 /// The smaller of two.
-fn smaller(one: usize, other: usize) -> usize
+pub fn smaller(one: usize, other: usize) -> usize
     ensures { (n : ℕ) → n < one → n < other → n < result }
 {
     if one < other { one } else { other }
@@ -331,7 +316,7 @@ fn race_of_send(
 }
 
 /// The message of the call, if it is a send.
-fn message_of(program: &LongProgram, send: usize) -> Option<Message>
+pub fn message_of(program: &LongProgram, send: usize) -> Option<Message>
     ensures some { IfSome result (Sends program.now send) }
     ensures none { IfNone result ((finder : ℕ) → IsTrue (are_fit program.now send finder) → ⊥) }
 {
@@ -339,107 +324,6 @@ fn message_of(program: &LongProgram, send: usize) -> Option<Message>
         None => None,
         Some(call) => call.kind.message(),
     }
-}
-
-/// Whether a finder of the group, from one call up to another, isn't settled without counts.
-fn is_open_in_group(
-    program: &LongProgram,
-    state: &State,
-    columns: &Columns,
-    names: &[usize],
-    finders: &Finders,
-    other: usize,
-    group: usize,
-    first: usize,
-    end: usize,
-) -> bool
-    requires spans { AreSpans program.now (block_of names.now) }
-    requires rising { IsRising (group_at finders.now group) }
-{
-    for place in finders.before(group, first)..finders.before(group, end) {
-        if let Some(finder) = finders.at(group, place) {
-            if !is_no_race_if_found(program, state, columns, &[], names, finder, other) {
-                return true;
-            }
-        }
-    }
-    false
-}
-
-/// Whether the send needs a count of the rank that it goes to.
-fn needs_count(
-    program: &LongProgram,
-    state: &State,
-    columns: &Columns,
-    names: &[usize],
-    finders: &Finders,
-    classes: &Classes,
-    other: usize,
-    message: &Message,
-) -> bool
-    requires spans { AreSpans program.now (block_of names.now) }
-    requires listing { IsListing program.now (block_of names.now) finders.now }
-{
-    if !state.is_issued(program, other) {
-        return false;
-    }
-    let start = classes.rank_start(program, other);
-    let high = smaller(
-        end_open(program, state, names, other),
-        classes.rank_end(program, other),
-    );
-    let groups = finders.count();
-    let named = group_of(
-        groups,
-        message.destination,
-        message.communicator,
-        Some(message.tag),
-    );
-    let from = larger(classes.first_open(program, state, names, other), start);
-    if is_open_in_group(
-        program, state, columns, names, finders, other, named, from, high,
-    ) {
-        return true;
-    }
-    let any = group_of(groups, message.destination, message.communicator, None);
-    let from = larger(
-        classes.first_open_of_any(program, state, names, other),
-        start,
-    );
-    is_open_in_group(
-        program, state, columns, names, finders, other, any, from, high,
-    )
-}
-
-/// For each rank whether a send that goes to it needs a count. The only error is want of memory.
-fn needed_ranks(
-    alloc: Global,
-    program: &LongProgram,
-    state: &State,
-    columns: &Columns,
-    names: &[usize],
-    finders: &Finders,
-    classes: &Classes,
-) -> Result<Vec<bool>, AllocError>
-    requires spans { AreSpans program.now (block_of names.now) }
-    requires listing { IsListing program.now (block_of names.now) finders.now }
-{
-    let mut needed = vec![in alloc; false; program.ranks() as usize]?;
-    for send in 0..program.calls().len() {
-        if let Some(message) = message_of(program, send) {
-            let rank = message.destination as usize;
-            if needed.get(rank).copied() == Some(false) {
-                if needs_count(
-                    program, state, columns, names, finders, classes, send, &message,
-                ) {
-                    if let Some(slot) = needed.get_mut(rank) {
-                        *slot = true;
-                    }
-                }
-            }
-        }
-    }
-    Ok(needed)
 }
 
 /// The first send that races, with the finder. The only error is want of memory.
@@ -453,6 +337,7 @@ fn race_in(
     finders: &Finders,
     covers: &Covers,
     classes: &Classes,
+    run: &[Step],
     exact: &mut Exact,
 ) -> Result<Option<Race>, AllocError>
     requires spans { AreSpans program.now (block_of names.now) }
@@ -467,6 +352,9 @@ fn race_in(
     ensures unordered { IfOk result (λ found. IfSome found (IsUnordered program.now (with_partners exact.old.partners))) }
 {
     for send in 0..program.calls().len() {
+        note_next(
+            alloc, program, state, columns, told, names, finders, covers, classes, run, exact, send,
+        )?;
         let found = race_of_send(
             alloc, program, state, columns, told, names, finders, covers, classes, exact, send,
         )?;
@@ -594,6 +482,18 @@ fn race_by(
     let told = told_of(alloc, program, &columns, partners.as_slice(), run)?;
     let order = issue_order(alloc, program, run)?;
     let mut exact = Exact::new(alloc, partners, order);
+    note_first(
+        alloc,
+        program,
+        state,
+        &columns,
+        told.as_slice(),
+        names,
+        &finders,
+        &covers,
+        &classes,
+        &mut exact,
+    )?;
     let found = race_in(
         alloc,
         program,
@@ -604,6 +504,7 @@ fn race_by(
         &finders,
         &covers,
         &classes,
+        run,
         &mut exact,
     )?;
     Ok(found)

@@ -124,6 +124,17 @@ fn done(program: &LongProgram, partners: &[Option<usize>], operation: usize) -> 
     }
 }
 
+/// The finder that has found where this call has returned, if the call waits for its send.
+pub fn found_by_send(
+    program: &LongProgram,
+    partners: &[Option<usize>],
+    call: usize,
+) -> Option<usize> {
+    let operation = done_by_return(program, call)?;
+    program.call(operation)?.kind.message()?;
+    done(program, partners, operation).finder
+}
+
 /// What has happened where the call has returned.
 fn returned(program: &LongProgram, partners: &[Option<usize>], call: usize) -> DoneOperation
     ensures { Leads (λ knows f. tells_found (with_partners partners.now) knows result f) (λ knows f.

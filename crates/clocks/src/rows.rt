@@ -1,13 +1,16 @@
 //! For each call a row: how many of each column's finders are known to have found where it is
-//! issued. A row is kept until it was read for the last time; of each send one count stays.
+//! issued. A row is kept until it was read for the last time; what is asked of it stays.
 
-ghost use Rattle.std.specs.Prelude.{◌≡◌, ℕ, Bool, IsTrue, IfOk, OnOk, Option, Some, slice_get};
+ghost use Rattle.std.specs.Prelude.{◌≡◌, ℕ, Bool, IsTrue, IfOk, List, OnOk, Option, Some, slice_get};
 ghost use Rattle.semantics.specs.Machine.{Configuration, partner_of};
 ghost use Rattle.races.specs.Tells.{Table, knows_at, tells_find};
-ghost use Rattle.clocks.specs.parts.Clocks.{Numbering, IsJoin, AddsToRow, AreRows, AreTold, AreSound, AreToldSoundly, IsCount, IsRow, level, tells_find_at, tells_read};
+ghost use Rattle.clocks.specs.declared.race.Race.{Race};
+ghost use Rattle.clocks.specs.parts.Clocks.{Numbering, IsJoin, AddsToRow, AreOrdered, AreRows, AreTold, AreSound, AreToldSoundly, IsCount, IsRow, IsToldAt, level, tells_find_at, tells_read};
+ghost use Rattle.clocks.specs.parts.Exact.{AreOrderedBy};
 ghost use Rattle.knowledge.specs.Knowledge.{with_partners};
 
 use crate::columns::Columns;
+use crate::race::Race;
 use crate::reads::{Read, found_send, is_last_read, partner, read_for, reads_of};
 use callorder::LongProgram;
 use semantics::Step;
@@ -114,16 +117,23 @@ fn row_from(
     Ok(row)
 }
 
+/// The count of the row for the column.
+fn count_in(row: &[usize], column: usize) -> Count
+    ensures { (numbering : Numbering) (known : ℕ → Bool) → IsRow numbering known row.now →
+        IsCount numbering known result.column result.count }
+{
+    Count {
+        column,
+        count: row.get(column).copied().unwrap_or(0),
+    }
+}
+
 /// The count of the row that is asked later: that of the column of the rank that the call sends to.
 fn count_for(program: &LongProgram, columns: &Columns, row: &[usize], call: usize) -> Count
     ensures { (numbering : Numbering) (known : ℕ → Bool) → IsRow numbering known row.now →
         IsCount numbering known result.column result.count }
 {
-    let column = destination_column(program, columns, call).unwrap_or(0);
-    Count {
-        column,
-        count: row.get(column).copied().unwrap_or(0),
-    }
+    count_in(row, destination_column(program, columns, call).unwrap_or(0))
 }
 
 /// The column of the rank that the call sends to, if it is a send and there is one.
@@ -140,6 +150,79 @@ fn tell(told: &mut Vec<Count>, call: usize, count: Count)
 {
     if let Some(place) = told.get_mut(call) {
         *place = count;
+    }
+}
+
+/// Whether the count tells that the finder has found.
+pub fn reaches(columns: &Columns, told: &Count, finder: usize) -> bool
+    ensures { IsTrue result → (known : ℕ → Bool) → IsCount columns.now known told.now.column told.now.count → IsTrue (known finder) }
+{
+    let Some(mark) = columns.mark(finder) else {
+        return false;
+    };
+    let Some(found) = columns.listed(mark.number) else {
+        return false;
+    };
+    if found != finder {
+        return false;
+    }
+    if mark.column != told.column || mark.number < columns.start(told.column) {
+        return false;
+    }
+    if told.count <= mark.number {
+        return false;
+    }
+    true
+}
+
+/// Whether the row tells that the finder has found.
+fn tells(columns: &Columns, row: &[usize], finder: usize) -> bool
+    ensures { IsTrue result → (known : ℕ → Bool) → IsRow columns.now known row.now → IsTrue (known finder) }
+{
+    match columns.mark(finder) {
+        None => false,
+        Some(mark) => reaches(columns, &count_in(row, mark.column), finder),
+    }
+}
+
+/// Whether the race at the place is one of the call, and the row tells that its finder has found.
+fn tells_at(columns: &Columns, row: &[usize], call: usize, asked: &[Race], place: usize) -> bool
+    ensures { IsTrue result → (more : Table) → IsRow columns.now (more call) row.now → IsToldAt more asked.now place }
+{
+    let Some(race) = asked.get(place).copied() else {
+        return false;
+    };
+    race.send == call && tells(columns, row, race.finder)
+}
+
+/// Notes at the place that the send is ordered behind the find.
+fn order(ordered: &mut Vec<bool>, place: usize)
+    ensures { (asked : List Race) (knows : Table) → AreOrdered knows asked ordered.old.items →
+        IsToldAt knows asked place → AreOrdered knows asked ordered.new.items }
+{
+    if let Some(entry) = ordered.get_mut(place) {
+        *entry = true;
+    }
+}
+
+/// Notes for which of the races of the call the row tells that the finder has found.
+fn order_races(
+    columns: &Columns,
+    row: &[usize],
+    call: usize,
+    asked: &[Race],
+    ordered: &mut Vec<bool>,
+)
+    ensures { (knows more : Table) → AreOrdered knows asked.now ordered.old.items →
+        ((c f : ℕ) → IsTrue (knows c f) → IsTrue (more c f)) →
+        IsRow columns.now (more call) row.now → AreOrdered more asked.now ordered.new.items }
+{
+    let first = asked.partition_point(|race| race.send < call);
+    let end = asked.partition_point(|race| race.send <= call);
+    for place in first..end {
+        if tells_at(columns, row, call, asked, place) {
+            order(ordered, place);
+        }
     }
 }
 
@@ -195,6 +278,8 @@ struct Known {
     rows: Vec<Vec<usize>>,
     /// For each call the one count that is asked later.
     told: Vec<Count>,
+    /// For each race that is asked of whether its finder has found where its send is issued.
+    ordered: Vec<bool>,
     /// For each call how often its row will still be read.
     reads: Vec<usize>,
     /// For each rank the call that it issues next.
@@ -208,18 +293,20 @@ fn note(
     program: &LongProgram,
     columns: &Columns,
     partners: &[Option<usize>],
+    asked: &[Race],
     known: &mut Known,
     call: usize,
 ) -> Result<(), AllocError>
-    ensures { OnOk result (AreSound program.now (with_partners partners.now) columns.now known.old.rows.items
-        known.old.told.items →
-        AreSound program.now (with_partners partners.now) columns.now known.new.rows.items
-        known.new.told.items) }
+    ensures { OnOk result (AreSound program.now (with_partners partners.now) columns.now asked.now
+        known.old.rows.items known.old.told.items known.old.ordered.items →
+        AreSound program.now (with_partners partners.now) columns.now asked.now
+        known.new.rows.items known.new.told.items known.new.ordered.items) }
 {
     let read = read_for(program, partners, call);
     let row = row_from(alloc, columns, partners, known.rows.as_slice(), &read)?;
     let count = count_for(program, columns, row.as_slice(), call);
     tell(&mut known.told, call, count);
+    order_races(columns, row.as_slice(), call, asked, &mut known.ordered);
     put(&mut known.rows, known.reads.as_slice(), call, row);
     forget_read(
         alloc,
@@ -237,21 +324,41 @@ fn take_step(
     program: &LongProgram,
     columns: &Columns,
     partners: &[Option<usize>],
+    asked: &[Race],
     known: &mut Known,
     step: &Step,
 ) -> Result<(), AllocError>
-    ensures { OnOk result (AreSound program.now (with_partners partners.now) columns.now known.old.rows.items
-        known.old.told.items →
-        AreSound program.now (with_partners partners.now) columns.now known.new.rows.items
-        known.new.told.items) }
+    ensures { OnOk result (AreSound program.now (with_partners partners.now) columns.now asked.now
+        known.old.rows.items known.old.told.items known.old.ordered.items →
+        AreSound program.now (with_partners partners.now) columns.now asked.now
+        known.new.rows.items known.new.told.items known.new.ordered.items) }
 {
     match step {
         Step::Issue { rank, .. } => {
             let call = issue_next(&mut known.next, *rank);
-            note(alloc, program, columns, partners, known, call)
+            note(alloc, program, columns, partners, asked, known, call)
         }
         _ => Ok(()),
     }
+}
+
+/// What is known from the issues of this run, in their order. The only error is want of memory.
+fn known_in(
+    alloc: Global,
+    program: &LongProgram,
+    columns: &Columns,
+    partners: &[Option<usize>],
+    asked: &[Race],
+    run: &[Step],
+) -> Result<Known, AllocError>
+    ensures { IfOk result (λ known. AreSound program.now (with_partners partners.now) columns.now asked.now
+        known.rows.items known.told.items known.ordered.items) }
+{
+    let mut known = nothing_known(alloc, program, columns, partners, asked)?;
+    for step in run {
+        take_step(alloc, program, columns, partners, asked, &mut known, step)?;
+    }
+    Ok(known)
 }
 
 /// For each send what is known, where it is issued, of the rank that it goes to, from the issues of
@@ -265,12 +372,27 @@ pub fn told_of(
 ) -> Result<Vec<Count>, AllocError>
     ensures { IfOk result (λ told. AreToldSoundly program.now (with_partners partners.now) columns.now told.items) }
 {
-    let mut known = nothing_known(alloc, program, columns, partners)?;
-    for step in run {
-        take_step(alloc, program, columns, partners, &mut known, step)?;
-    }
+    let known = known_in(alloc, program, columns, partners, &[], run)?;
     let Known { told, .. } = known;
     Ok(told)
+}
+
+/// For each of these races, which rise by their sends, whether it is told that its send is issued
+/// only where its finder has found, from the issues of this run, in their order. The only error is
+/// want of memory.
+pub fn ordered_of(
+    alloc: Global,
+    program: &LongProgram,
+    columns: &Columns,
+    partners: &[Option<usize>],
+    asked: &[Race],
+    run: &[Step],
+) -> Result<Vec<bool>, AllocError>
+    ensures { IfOk result (λ ordered. AreOrderedBy program.now (with_partners partners.now) asked.now ordered.items) }
+{
+    let known = known_in(alloc, program, columns, partners, asked, run)?;
+    let Known { ordered, .. } = known;
+    Ok(ordered)
 }
 
 /// What is known before a run: nothing. The only error is want of memory.
@@ -279,16 +401,20 @@ fn nothing_known(
     program: &LongProgram,
     columns: &Columns,
     partners: &[Option<usize>],
+    asked: &[Race],
 ) -> Result<Known, AllocError>
-    ensures { IfOk result (λ known. AreSound program.now (with_partners partners.now) columns.now known.rows.items known.told.items) }
+    ensures { IfOk result (λ known. AreSound program.now (with_partners partners.now) columns.now asked.now
+        known.rows.items known.told.items known.ordered.items) }
 {
     let rows = empty_rows(alloc, program, columns, partners)?;
     let told = zero_counts(alloc, program)?;
+    let ordered = none_ordered(alloc, asked)?;
     let reads = reads_of(alloc, program, partners)?;
     let next = first_calls(alloc, program)?;
     Ok(Known {
         rows,
         told,
+        ordered,
         reads,
         next,
     })
@@ -303,6 +429,13 @@ fn zero_counts(alloc: Global, program: &LongProgram) -> Result<Vec<Count>, Alloc
         count: 0,
     };
     vec![in alloc; zero; program.calls().len()]
+}
+
+/// That none of the races is told to be ordered. The only error is want of memory.
+fn none_ordered(alloc: Global, asked: &[Race]) -> Result<Vec<bool>, AllocError>
+    ensures { IfOk result (λ ordered. (knows : Table) → AreOrdered knows asked.now ordered.items) }
+{
+    vec![in alloc; false; asked.len()]
 }
 
 /// For each call an empty row, which tells nothing. The only error is want of memory.

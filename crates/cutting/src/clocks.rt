@@ -4,6 +4,7 @@
 use crate::finders::RankColumns;
 use crate::graph::{Edge, Needs};
 use crate::lists::{at, count_up_to, put};
+use crate::reaches::{Reach, merge, place_of};
 use crate::routes::Wildcards;
 use crate::tying::partner;
 use callorder::{Call, Kind, LongProgram, Message, Policy};
@@ -11,6 +12,7 @@ use calltext::Mode;
 use semantics::Step;
 use std::alloc::{AllocError, Global};
 use std::collections::HashMap;
+use std::mem;
 
 /// From where a message goes where, with its tag and communicator, or without these.
 #[derive(Clone, Copy, PartialEq, Eq, Hash)]
@@ -33,11 +35,12 @@ pub struct Known {
 struct Clocks {
     /// The next call of each rank.
     next: Vec<usize>,
-    /// For each rank and each column the place up to which the column's rank is known to have
-    /// returned from its calls.
-    known: Vec<Vec<usize>>,
-    /// What was known where a call was issued that others learn from.
-    issued: Vec<Option<Vec<usize>>>,
+    /// For each rank what it has learnt of others.
+    known: Vec<Vec<Reach>>,
+    /// What was known where a call was issued, while others will learn from it.
+    issued: Vec<Vec<Reach>>,
+    /// For each call how often others will still learn from its issue.
+    readings: Vec<usize>,
     /// The last send on each route.
     last: HashMap<Route, usize>,
 }
@@ -143,15 +146,18 @@ impl Known {
         }
     }
 
-    /// Whether others may learn from the issue of this call.
-    fn is_heard(&self, program: &LongProgram, place: usize) -> bool {
-        let Some(call) = program.call(place) else {
-            return false;
-        };
-        if call.kind.message().is_some() {
-            return self.sure_taker(program, place).is_some();
+    /// For each call how often others will learn from its issue.
+    fn readings(&self, alloc: Global, program: &LongProgram) -> Result<Vec<usize>, AllocError> {
+        let mut readings = vec![in alloc; 0; program.calls().len()]?;
+        for place in 1..program.calls().len() {
+            if program.are_of_one_rank(place - 1, place) {
+                if let Some(other) = self.returned(program, place - 1) {
+                    let more = at(&readings, other).saturating_add(1);
+                    put(&mut readings, other, more);
+                }
+            }
         }
-        self.sure_send(place, &call).is_some()
+        Ok(readings)
     }
 }
 
@@ -162,14 +168,14 @@ impl Clocks {
             next: first_calls(alloc, program)?,
             known: Vec::with_capacity(alloc, ranks)?,
             issued: Vec::with_capacity(alloc, program.calls().len())?,
+            readings: known.readings(alloc, program)?,
             last: last_sends(alloc, program, &known.columns)?,
         };
         for _rank in 0..ranks {
-            let row = vec![in alloc; 0; known.columns.columns.len()]?;
-            clocks.known.push(row)?;
+            clocks.known.push(Vec::new(alloc))?;
         }
         for _place in 0..program.calls().len() {
-            clocks.issued.push(None)?;
+            clocks.issued.push(Vec::new(alloc))?;
         }
         Ok(clocks)
     }
@@ -179,34 +185,33 @@ impl Clocks {
         self.last.get(route).copied().unwrap_or(0)
     }
 
-    fn known_of(&self, rank: u32, column: usize) -> usize {
+    /// How far a rank that issues the call at this place knows the rank of a column to be.
+    fn known_of(&self, columns: &RankColumns, rank: u32, place: usize, column: usize) -> usize {
+        if column == columns.number(rank) {
+            return place;
+        }
         match self.known.get(rank as usize) {
             None => 0,
-            Some(row) => at(row, column),
+            Some(known) => place_of(known, column),
         }
     }
 
-    fn know(&mut self, rank: u32, column: usize, place: usize) {
-        if let Some(row) = self.known.get_mut(rank as usize) {
-            put(row, column, place);
-        }
-    }
-
-    /// Learns at a call that has returned how far the rank of a column is.
+    /// Learns at a call that has returned that the rank of a column is further than it was known to
+    /// be.
     fn learn(
-        &mut self,
+        &self,
         columns: &RankColumns,
         call: &Call,
         place: usize,
-        number: usize,
-        more: usize,
+        old: usize,
+        new: Reach,
         needs: &mut Needs,
     ) -> Result<(), AllocError> {
-        let old = self.known_of(call.rank, number);
-        if more <= old || number == columns.number(call.rank) {
+        let number = new.column;
+        let more = new.place;
+        if number == columns.number(call.rank) {
             return Ok(());
         }
-        self.know(call.rank, number, more);
         let Some(column) = columns.columns.get(number) else {
             return Ok(());
         };
@@ -224,7 +229,7 @@ impl Clocks {
         };
         if self.last_of(&route) > place {
             needs.edges.push(Edge {
-                from: finder.place,
+                from: *finder,
                 to: place,
             })?;
         }
@@ -241,14 +246,32 @@ impl Clocks {
         other: usize,
         needs: &mut Needs,
     ) -> Result<(), AllocError> {
-        let heard = match self.issued.get(other) {
-            Some(Some(heard)) => Vec::from_slice(alloc, heard)?,
-            _ => Vec::new(alloc),
+        let heard = self.read(alloc, other)?;
+        let Some(known) = self.known.get_mut(call.rank as usize) else {
+            return Ok(());
         };
-        for number in 0..heard.len() {
-            self.learn(columns, call, place, number, at(&heard, number), needs)?;
+        let old = mem::replace(known, Vec::new(alloc));
+        *known = merge(alloc, old.as_slice(), heard.as_slice())?;
+        for reach in heard {
+            let before = place_of(old.as_slice(), reach.column);
+            if before < reach.place {
+                self.learn(columns, call, place, before, reach, needs)?;
+            }
         }
         Ok(())
+    }
+
+    /// What was known where the call was issued, which is let go after the last reading.
+    fn read(&mut self, alloc: Global, call: usize) -> Result<Vec<Reach>, AllocError> {
+        let left = at(&self.readings, call).saturating_sub(1);
+        put(&mut self.readings, call, left);
+        let Some(issued) = self.issued.get_mut(call) else {
+            return Ok(Vec::new(alloc));
+        };
+        if left == 0 {
+            return Ok(mem::replace(issued, Vec::new(alloc)));
+        }
+        Vec::from_slice(alloc, issued)
     }
 
     /// Has the first finder that isn't known to have found need this send, where it is the last one
@@ -269,9 +292,10 @@ impl Clocks {
         let Some(column) = columns.column(message.destination) else {
             return Ok(());
         };
-        let known = self.known_of(call.rank, columns.number(message.destination));
+        let number = columns.number(message.destination);
+        let known = self.known_of(columns, call.rank, place, number);
         let first = count_up_to(&column.ends, known);
-        if let Some(finder) = column.fitting(first, message.communicator, message.tag) {
+        if let Some(finder) = columns.fitting(first, &message) {
             let edge = Edge {
                 from: finder,
                 to: place,
@@ -302,29 +326,32 @@ impl Clocks {
                 self.hear(alloc, &known.columns, &call, before, other, needs)?;
             }
         }
-        self.know(rank, known.columns.number(rank), place);
         self.send(&known.columns, &call, place, needs)?;
-        self.keep(alloc, program, known, rank, place)
+        self.keep(alloc, &known.columns, rank, place)
     }
 
-    /// Keeps what is known where a call is issued that others learn from.
+    /// Keeps what is known where a call is issued that others will learn from.
     fn keep(
         &mut self,
         alloc: Global,
-        program: &LongProgram,
-        known: &Known,
+        columns: &RankColumns,
         rank: u32,
         place: usize,
     ) -> Result<(), AllocError> {
-        if !known.is_heard(program, place) {
+        if at(&self.readings, place) == 0 {
             return Ok(());
         }
-        let row = match self.known.get(rank as usize) {
-            None => Vec::new(alloc),
-            Some(row) => Vec::from_slice(alloc, row)?,
+        let Some(known) = self.known.get(rank as usize) else {
+            return Ok(());
+        };
+        let kept = if columns.column(rank).is_some() {
+            let column = columns.number(rank);
+            merge(alloc, known.as_slice(), &[Reach { column, place }])?
+        } else {
+            Vec::from_slice(alloc, known)?
         };
         if let Some(issued) = self.issued.get_mut(place) {
-            *issued = Some(row);
+            *issued = kept;
         }
         Ok(())
     }

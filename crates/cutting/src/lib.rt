@@ -22,6 +22,7 @@ mod keys;
 mod knots;
 mod lists;
 mod printing;
+mod reaches;
 mod routes;
 mod strong;
 mod tying;

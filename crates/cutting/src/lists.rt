@@ -14,18 +14,5 @@ pub fn put(list: &mut [usize], place: usize, entry: usize) {
 
 /// How many entries of a rising list are at most the bound.
 pub fn count_up_to(rising: &[usize], bound: usize) -> usize {
-    let mut low: usize = 0;
-    let mut high = rising.len();
-    for _halving in 0..64 {
-        let middle = low.saturating_add(high) / 2;
-        if low >= high {
-            return low;
-        }
-        if at(rising, middle) <= bound {
-            low = middle.saturating_add(1);
-        } else {
-            high = middle;
-        }
-    }
-    low
+    rising.partition_point(|entry| *entry <= bound)
 }

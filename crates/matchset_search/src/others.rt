@@ -56,7 +56,9 @@ impl SharedClosed {
             return Ok(());
         }
         match first.checked_sub(self.first) {
-            Some(from) if from <= self.log.len() => self.log.follow(self.alloc, from, &lines),
+            Some(from) if from <= self.log.len() => {
+                self.log.follow_unseen(self.alloc, from, &lines)
+            }
             _ => self.put_first(first, &lines),
         }
     }

@@ -79,3 +79,16 @@ appended {X} from held count xs ys is within many same =
     ∙ append_assoc (take from xs) (drop from xs) (drop held ys)
     ∙ ap (λ (l : List X). take from xs ++ (l ++ drop held ys)) (sym all ∙ same)
     ∙ ap (λ (l : List X). take from xs ++ l) (take-append-drop held ys)
+
+-- what follows at success
+pub ok_then : {A E P Q : Type 0} (result : Result A E) → (P → Q) → OnOk result P → OnOk result Q
+ok_then (Ok _) f is = f is
+ok_then (Err _) f is = tt
+
+-- past a front, the rest of what stands behind it
+pub drop_front : {X : Type 0} (a j : ℕ) (xs ys : List X) → a ≤ length xs → drop (a + j) (take a xs ++ ys) ≡ drop j ys
+drop_front zero j xs ys within = let e : 0 + j ≡ j = omega arith in ap (λ n. drop n ys) e
+drop_front (suc a) j [] ys within = absurd (omega (arith, within))
+drop_front (suc a) j (x ∷ xs) ys within =
+    let e : suc a + j ≡ suc (a + j) = omega arith in
+    ap (λ n. drop n (x ∷ (take a xs ++ ys))) e ∙ drop_front a j xs ys (omega (arith, within))

@@ -1,3 +1,2 @@
-pub mod Equal
 pub mod Fronts
 pub mod Joined

@@ -1,16 +1,46 @@
-//! Lines that are compared and copied.
+//! Lines that are compared, and counted once more.
 
-ghost use Rattle.std.specs.Prelude.{◌≡◌, ◌+◌, ◌-◌, ◌≤◌, IfOk, IsTrue, OnErr, OnOk, drop, length, slice_get, take};
+ghost use Rattle.std.specs.Prelude.{◌≡◌, ◌+◌, ◌-◌, ◌≤◌, IfOk, IsTrue, drop, length, slice_get, take};
 
-use crate::page::copied;
+use crate::counted::{Counted, CountedList};
+use clauses::Lit;
 use refutations::{Line, LineList};
 use std::alloc::{AllocError, Global};
+
+fn are_same_numbers(numbers: &[u32], others: &[u32]) -> bool
+    ensures { IsTrue result → numbers.now ≡ others.now }
+{
+    if numbers.len() != others.len() {
+        return false;
+    }
+    for place in 0..numbers.len() {
+        if numbers[place] != others[place] {
+            return false;
+        }
+    }
+    true
+}
+
+fn are_same_literals(literals: &[Lit], others: &[Lit]) -> bool
+    ensures { IsTrue result → literals.now ≡ others.now }
+{
+    if literals.len() != others.len() {
+        return false;
+    }
+    for place in 0..literals.len() {
+        if literals[place] != others[place] {
+            return false;
+        }
+    }
+    true
+}
 
 /// Whether both have the same literals and the same hints.
 fn are_same(line: &Line, other: &Line) -> bool
     ensures { IsTrue result → line.now ≡ other.now }
 {
-    line.literals() == other.literals() && line.hints() == other.hints()
+    are_same_literals(line.literals(), other.literals())
+        && are_same_numbers(line.hints(), other.hints())
 }
 
 /// Whether both have a line at these places, and the same one.
@@ -45,38 +75,23 @@ pub(crate) fn are_first<L: LineList, M: LineList>(
     true
 }
 
-/// Copies of the lines from this place to below that one.
-pub(crate) fn copies<L: LineList>(
+/// The lines from this place to below that one once more. Nothing of them is copied.
+pub(crate) fn copies<L: CountedList>(
     alloc: Global,
     lines: &L,
     from: usize,
     to: usize,
-) -> Result<Vec<Line>, AllocError>
+) -> Result<Vec<Counted>, AllocError>
     requires from { from ≤ to }
     requires to { to ≤ length (L.lines lines.now) }
     ensures { IfOk result (λ copies. copies.items ≡ take (to - from) (drop from (L.lines lines.now))) }
 {
     let mut copies = Vec::with_capacity(alloc, to - from)?;
     for place in from..to {
-        let Some(line) = lines.get(place) else {
+        let Some(line) = lines.held_at(place) else {
             unreachable!()
         };
-        copies.push(line.copy(alloc)?)?;
+        copies.push(line.share()?)?;
     }
     Ok(copies)
-}
-
-/// Makes these lines the same as others, of which those that they lack are copied. Where memory
-/// runs out, they stay as they were.
-pub(crate) fn go_on(alloc: Global, lines: &mut Vec<Line>, others: &[Line]) -> Result<(), AllocError>
-    ensures same { OnOk result (lines.new.items ≡ others.now) }
-    ensures unchanged { OnErr result (lines.new.items ≡ lines.old.items) }
-{
-    let count = lines.len();
-    if are_first(&lines.as_slice(), 0, count, &others) {
-        lines.append(&mut copied(alloc, others, count)?)?;
-    } else {
-        *lines = copied(alloc, others, 0)?;
-    }
-    Ok(())
 }

@@ -5,6 +5,7 @@
 #![tactic(auto)]
 
 mod copies;
+mod counted;
 mod extended;
 mod lines;
 mod log;

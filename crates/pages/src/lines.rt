@@ -3,6 +3,7 @@
 ghost use Rattle.std.specs.Prelude.{◌≡◌, ◌<◌, ◌^◌, drop, length, IfOk, slice_get};
 ghost use Rattle.std.specs.Option.{option_map};
 
+use crate::counted::{Counted, CountedList, all_counted};
 use crate::log::{Log, paged};
 use crate::page::LINES_PER_PAGE;
 use refutations::{Line, LineList};
@@ -51,7 +52,7 @@ impl Lines {
     pub fn from_vec(alloc: Global, lines: Vec<Line>) -> Result<Lines, AllocError>
         ensures { IfOk result (λ made. made ≡ lines.items) }
     {
-        let log = paged(alloc, lines)?;
+        let log = paged(alloc, all_counted(alloc, lines)?)?;
         Ok(Lines { log, from: 0 })
     }
 
@@ -68,10 +69,28 @@ impl Lines {
     pub fn get(&self, place: usize) -> Option<&Line>
         ensures { option_map (λ line. line.now) result ≡ slice_get self.now place }
     {
+        match self.held_at(place) {
+            Some(held) => Some(held.line()),
+            None => None,
+        }
+    }
+
+    /// The line at this place, as it is kept; there is none from the length on.
+    pub(crate) fn held_at(&self, place: usize) -> Option<&Counted>
+        ensures { option_map (λ line. line.now) result ≡ slice_get self.now place }
+    {
         if place >= self.len() {
             return None;
         }
-        self.log.get(self.from + place)
+        self.log.held_at(self.from + place)
+    }
+}
+
+impl CountedList for Lines {
+    ghost lines = { λ list. list };
+
+    fn held_at(&self, place: usize) -> Option<&Counted> {
+        self.held_at(place)
     }
 }
 

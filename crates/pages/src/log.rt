@@ -4,7 +4,8 @@ ghost use Rattle.std.specs.Prelude.{◌≡◌, ◌+◌, ◌++◌, ◌∷◌, [],
 ghost use Rattle.std.specs.Option.{option_map};
 ghost use Rattle.pages.specs.Pages.{joined_pages};
 
-use crate::copies::{are_first, copies, go_on};
+use crate::copies::{are_first, copies};
+use crate::counted::{Counted, CountedList, all_counted, all_lines};
 use crate::lines::Lines;
 use crate::page::{LINES_PER_PAGE, Page, copied, page_of, shared};
 use refutations::{Line, LineList};
@@ -23,7 +24,7 @@ const LARGEST_LENGTH: usize = usize::MAX / 2;
 #[derive(Debug, Drop)]
 pub struct Log {
     pages: Vec<Page>,
-    last: Vec<Line>,
+    last: Vec<Counted>,
 }
 
 impl Model for Log {
@@ -40,7 +41,7 @@ impl Model for Log {
 }
 
 /// The log of these lines, of which none is copied.
-pub(crate) fn paged(alloc: Global, lines: Vec<Line>) -> Result<Log, AllocError>
+pub(crate) fn paged(alloc: Global, lines: Vec<Counted>) -> Result<Log, AllocError>
     ensures { IfOk result (λ log. log ≡ lines.items) }
 {
     let mut log = Log::new(alloc);
@@ -103,6 +104,16 @@ impl Log {
     pub fn get(&self, place: usize) -> Option<&Line>
         ensures { option_map (λ line. line.now) result ≡ slice_get self.now place }
     {
+        match self.held_at(place) {
+            Some(held) => Some(held.line()),
+            None => None,
+        }
+    }
+
+    /// The line at this place, as it is kept; there is none from the length on.
+    pub(crate) fn held_at(&self, place: usize) -> Option<&Counted>
+        ensures { option_map (λ line. line.now) result ≡ slice_get self.now place }
+    {
         match self.pages.get(place / LINES_PER_PAGE) {
             Some(page) => page.get(place % LINES_PER_PAGE),
             None => self.last.get(place - self.pages.len() * LINES_PER_PAGE),
@@ -110,7 +121,7 @@ impl Log {
     }
 
     /// Appends one line. Where memory runs out, lines may be lost.
-    fn push(&mut self, alloc: Global, line: Line) -> Result<(), AllocError>
+    fn push(&mut self, alloc: Global, line: Counted) -> Result<(), AllocError>
         requires { length self.old + 1 < 2 ^ 63 }
         ensures { OnOk result (self.new ≡ self.old ++ line ∷ []) }
     {
@@ -128,7 +139,15 @@ impl Log {
 
     /// Appends these lines, of which none is copied. Where memory runs out, the log stays as it
     /// was.
-    pub fn append(&mut self, alloc: Global, mut lines: Vec<Line>) -> Result<(), AllocError>
+    pub fn append(&mut self, alloc: Global, lines: Vec<Line>) -> Result<(), AllocError>
+        ensures appended { OnOk result (self.new ≡ self.old ++ lines.items) }
+        ensures unchanged { OnErr result (self.new ≡ self.old) }
+    {
+        self.append_counted(alloc, all_counted(alloc, lines)?)
+    }
+
+    /// Appends these lines. Where memory runs out, the log stays as it was.
+    fn append_counted(&mut self, alloc: Global, mut lines: Vec<Counted>) -> Result<(), AllocError>
         ensures appended { OnOk result (self.new ≡ self.old ++ lines.items) }
         ensures unchanged { OnErr result (self.new ≡ self.old) }
     {
@@ -152,20 +171,19 @@ impl Log {
         Ok(())
     }
 
-    /// All lines. Those of pages that are shared with nobody are moved out, and others copied.
+    /// All lines. Those that are shared with nobody are moved out, and others copied.
     pub fn into_lines(self, alloc: Global) -> Result<Vec<Line>, AllocError>
         ensures { IfOk result (λ lines. lines.items ≡ self) }
     {
         let count = self.len();
-        let Log { pages, mut last } = self;
+        let Log { pages, last } = self;
         let mut lines = joined(alloc, pages, count)?;
-        lines.append(&mut last)?;
+        lines.append(&mut all_lines(alloc, last)?)?;
         Ok(lines)
     }
 
     /// Keeps its first pages, and has all lines of another log follow, whose full pages are shared.
-    /// Of the lines after them those that this log lacks are copied. Where memory runs out, it
-    /// stays as it was.
+    /// The lines after them are counted. Where memory runs out, it stays as it was.
     fn share(&mut self, alloc: Global, kept: usize, other: &Log) -> Result<(), AllocError>
         requires within { kept * 256 ≤ length self.old }
         requires few { kept * 256 + length other.now < 2 ^ 63 }
@@ -174,13 +192,14 @@ impl Log {
     {
         let mut later = shared(alloc, &other.pages, 0)?;
         self.pages.reserve(later.len())?;
-        go_on(alloc, &mut self.last, &other.last)?;
+        let last = copied(alloc, &other.last, 0)?;
+        self.last = last;
         put_behind(&mut self.pages, kept, &mut later);
         Ok(())
     }
 
-    /// Keeps its first `from` lines, and has copies of these follow. Where memory runs out, it
-    /// stays as it was.
+    /// Keeps its first `from` lines, and has these follow, each of which is counted. Where memory
+    /// runs out, it stays as it was.
     fn copy_behind(&mut self, alloc: Global, from: usize, lines: &Lines) -> Result<(), AllocError>
         requires within { from ≤ length self.old }
         requires few { from + length lines.now < 2 ^ 63 }
@@ -196,10 +215,10 @@ impl Log {
 
     /// Keeps its first `from` lines, and has these follow them. What [`after`](Log::after) handed
     /// out, from this place on, of a log that begins with the same lines, costs as little as there:
-    /// its full pages are shared, also in place of lines that this log has, and of the lines after
-    /// them only those are copied that this log lacks. Any other list is copied line by line, as
-    /// far as the log doesn't have it. Where memory runs out, the log stays as it was; 2^63 lines
-    /// are refused as want of memory.
+    /// its full pages are shared, also in place of lines that this log has, and the lines after them
+    /// are counted. Of any other list each line is counted, as far as the log doesn't have it. No
+    /// line is copied. Where memory runs out, the log stays as it was; 2^63 lines are refused as
+    /// want of memory.
     pub fn follow(&mut self, alloc: Global, from: usize, lines: &Lines) -> Result<(), AllocError>
         requires { from ≤ length self.old }
         ensures followed { OnOk result (self.new ≡ take from self.old ++ lines.now) }
@@ -215,13 +234,36 @@ impl Log {
             return self.share(alloc, from / LINES_PER_PAGE, log);
         }
         if are_first(self, from, held, lines) {
-            return self.append(alloc, copies(alloc, lines, held, lines.len())?);
+            return self.append_counted(alloc, copies(alloc, lines, held, lines.len())?);
         }
         self.copy_behind(alloc, from, lines)
     }
 
+    /// Has these lines follow its first `from` ones, of which those in the last page may become
+    /// others: pages are shared without a comparison. For a reader who trusts no line. Where
+    /// memory runs out, the log stays as it was; 2^63 lines are refused as want of memory.
+    pub fn follow_unseen(
+        &mut self,
+        alloc: Global,
+        from: usize,
+        lines: &Lines,
+    ) -> Result<(), AllocError>
+        requires { from ≤ length self.old }
+        ensures behind { OnOk result (drop from self.new ≡ lines.now) }
+        ensures unchanged { OnErr result (self.new ≡ self.old) }
+    {
+        if lines.len() > LARGEST_LENGTH - from.min(self.len()) {
+            return Err(AllocError);
+        }
+        let (log, hidden) = lines.parts();
+        if hidden == from % LINES_PER_PAGE {
+            return self.share(alloc, from / LINES_PER_PAGE, log);
+        }
+        self.follow(alloc, from, lines)
+    }
+
     /// The lines after the first `from` ones, as they are now. Full pages are shared, so this takes
-    /// time in proportion to the pages; at most 255 lines are copied.
+    /// time in proportion to the pages; at most 255 lines are counted.
     pub fn after(&self, alloc: Global, from: usize) -> Result<Lines, AllocError>
         requires { from ≤ length self.now }
         ensures { IfOk result (λ lines. lines ≡ drop from self.now) }
@@ -241,6 +283,14 @@ impl Log {
             },
             0,
         ))
+    }
+}
+
+impl CountedList for Log {
+    ghost lines = { λ list. list };
+
+    fn held_at(&self, place: usize) -> Option<&Counted> {
+        self.held_at(place)
     }
 }
 

@@ -3,6 +3,7 @@
 ghost use Rattle.std.specs.Prelude.{◌≡◌, ◌≤◌, ◌++◌, [], drop, length, IfOk, IfErr, OnOk, OnErr, slice_get};
 ghost use Rattle.std.specs.Option.{option_map};
 
+use crate::counted::{Counted, all_lines};
 use refutations::Line;
 use std::alloc::{AllocError, Global};
 use std::marker::Model;
@@ -15,7 +16,7 @@ pub(crate) const LINES_PER_PAGE: usize = 256;
 /// Lines that several owners may share.
 #[derive(Debug, Drop)]
 pub(crate) struct Page {
-    lines: Arc<Vec<Line>>,
+    lines: Arc<Vec<Counted>>,
 }
 
 impl Model for Page {
@@ -30,7 +31,7 @@ impl Model for Page {
 
 impl Page {
     /// A page of these lines, which come back where memory runs out.
-    pub(crate) fn new(alloc: Global, lines: Vec<Line>) -> Result<Page, Vec<Line>>
+    pub(crate) fn new(alloc: Global, lines: Vec<Counted>) -> Result<Page, Vec<Counted>>
         ensures made { IfOk result (λ page. page ≡ lines.items) }
         ensures back { IfErr result (λ back. back ≡ lines) }
     {
@@ -41,19 +42,19 @@ impl Page {
     }
 
     /// The line at this place of the page.
-    pub(crate) fn get(&self, place: usize) -> Option<&Line>
+    pub(crate) fn get(&self, place: usize) -> Option<&Counted>
         ensures { option_map (λ line. line.now) result ≡ slice_get self.now place }
     {
         self.lines.get(place)
     }
 
-    /// The lines of the page, which are moved out where nobody else has it, and copied otherwise.
+    /// The lines of the page. Those that nobody else has are moved out, and others copied.
     pub(crate) fn into_lines(self, alloc: Global) -> Result<Vec<Line>, AllocError>
         ensures { IfOk result (λ lines. lines.items ≡ self) }
     {
         match Arc::try_unwrap(self.lines) {
-            Ok(lines) => Ok(lines),
-            Err(shared) => copied(alloc, &shared, 0),
+            Ok(lines) => all_lines(alloc, lines),
+            Err(shared) => all_lines(alloc, copied(alloc, &shared, 0)?),
         }
     }
 
@@ -70,8 +71,8 @@ impl Page {
 /// runs out, the first ones are put back.
 pub(crate) fn page_of(
     alloc: Global,
-    first: &mut Vec<Line>,
-    others: &mut Vec<Line>,
+    first: &mut Vec<Counted>,
+    others: &mut Vec<Counted>,
 ) -> Result<Page, AllocError>
     ensures made { IfOk result (λ page. page ≡ first.old.items ++ others.old.items) }
     ensures moved { OnOk result (first.new.items ≡ []) }
@@ -102,14 +103,18 @@ pub(crate) fn shared(alloc: Global, pages: &[Page], from: usize) -> Result<Vec<P
     Ok(shared)
 }
 
-/// Copies of the lines from this place on.
-pub(crate) fn copied(alloc: Global, lines: &[Line], from: usize) -> Result<Vec<Line>, AllocError>
+/// The same lines once more, from this place on. Copies nothing of them.
+pub(crate) fn copied(
+    alloc: Global,
+    lines: &[Counted],
+    from: usize,
+) -> Result<Vec<Counted>, AllocError>
     requires { from ≤ length lines.now }
     ensures { IfOk result (λ copied. copied.items ≡ drop from lines.now) }
 {
-    let mut copied = Vec::new(alloc);
+    let mut copied = Vec::with_capacity(alloc, lines.len() - from)?;
     for line in &lines[from..] {
-        copied.push(line.copy(alloc)?)?;
+        copied.push(line.share()?)?;
     }
     Ok(copied)
 }

@@ -3,6 +3,7 @@ pub mod SearchLaws
 pub mod StuckRanks
 pub mod NeededCalls
 pub mod NeededRanks
+pub mod ComingSends
 pub mod OutstandingNeeds
 pub mod WaitingGraphs
 pub mod MissedParts

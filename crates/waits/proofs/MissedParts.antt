@@ -1,5 +1,5 @@
 -- The part that is told is the only one that fails.
-use Rattle.std.proofs.Common.{◌≡◌, ◌≢◌, ◌↔◌, ℕ, Bool, true, false, ◌&&◌, Option, Some, None, refl, sym, subst}
+use Rattle.std.proofs.Common.{◌≡◌, ◌≢◌, ℕ, Bool, true, false, ◌&&◌, Option, Some, None, refl, sym, subst}
 use Rattle.std.proofs.lemmas.Option.{same_Some}
 use Rattle.callorder.specs.declared.calls.Message.{Message}
 use Rattle.callorder.specs.declared.calls.Pattern.{Pattern}
@@ -7,7 +7,7 @@ use Rattle.callorder.specs.Calls.{message_of, pattern_of, fits_between}
 use Rattle.waits.specs.declared.parts.Mismatch.{Mismatch}
 use Rattle.waits.specs.declared.parts.Mismatch.TheVariants.{Destination, Communicator, Source, Tag}
 use Rattle.waits.specs.Misses.{holds_in, only_false, missed_between}
-use Rattle.waits.specs.MissLaws.{MissesOnly, MissedPartsAreTheOnlyOnes, FitCallsMissNoPart}
+use Rattle.waits.specs.MissLaws.{MissedPartsAreTheOnlyOnes, FitCallsMissNoPart}
 
 -- the test fails at the part, and at no other
 record FailsOnlyAt (test : Mismatch → Bool) (part : Mismatch) : Type 0 where

@@ -1,5 +1,5 @@
 -- Near misses where no call without a partner fits.
-use Rattle.std.proofs.Common.{◌≡◌, ℕ, Bool, false, if◌then◌else◌, List, [], sym, ap}
+use Rattle.std.proofs.Common.{◌≡◌, ℕ, Bool, false, if◌then◌else◌, [], sym, ap}
 use Rattle.callorder.specs.Programs.{MpiProgram}
 use Rattle.semantics.specs.Machine.{Configuration}
 use Rattle.waits.specs.Misses.{has_unmatched_fit, near_misses, unmatched_misses}

@@ -1,11 +1,8 @@
 -- Ranks whose calls could bring a match, and those that a rank waits for.
-use Rattle.std.proofs.Common.{◌≡◌, ℕ, ◌+◌, ◌<◌, ◌≤◌, ◌⊎◌, inl, inr, Bool, nat_lt, IsTrue, List, [], ◌∷◌, ◌++◌, Option, Some, None, length, get_or, slice_get, slice_index, refl, sym, ◌∙◌, ap, subst, ◌↔◌, arith}
+use Rattle.std.proofs.Common.{◌≡◌, ℕ, ◌+◌, ◌<◌, ◌≤◌, ◌⊎◌, inl, inr, Bool, nat_lt, IsTrue, List, [], Option, Some, None, length, get_or, slice_get, slice_index, refl, sym, ◌∙◌, ap, subst, ◌↔◌, arith}
 use Rattle.std.specs.Prelude.{IfOk, IfSome, Contains, Result, Ok, Err}
-use Rattle.std.specs.List.{AllPairs}
 use Rattle.std.proofs.lemmas.Bool.{cases_eq, cases_lt, or_cases, and_parts, eqb-true, eq-eqb, both_ways, le-ltb, lt-ltb, true≢false}
 use Rattle.std.proofs.lemmas.Option.{slice_get-get_or, slice_get_within, same_Some, none-some}
-use Rattle.std.proofs.lemmas.List.Elements.{Contains-get_or, Contains-push, Contains-push_cases, Contains-append_left}
-use Rattle.std.proofs.lemmas.List.Quantifiers.{all_pairs_push}
 use Rattle.calltext.specs.declared.limits.Limits.{Limits}
 use Rattle.callorder.specs.declared.calls.Call.{Call}
 use Rattle.callorder.specs.declared.calls.Kind.{Kind}
@@ -78,11 +75,11 @@ no_fit sender taker None pattern none fit = true≢false (sym fit)
 no_fit sender taker (Some message) None none fit = true≢false (sym fit)
 no_fit sender taker (Some message) (Some pattern) none fit = absurd (cc)
 
-no_send_fit : (sender taker : ℕ) (message : Option Message) (pattern : Option Pattern) → message ≡ None → IsTrue (fits_between sender message taker pattern) → ⊥
+pub no_send_fit : (sender taker : ℕ) (message : Option Message) (pattern : Option Pattern) → message ≡ None → IsTrue (fits_between sender message taker pattern) → ⊥
 no_send_fit sender taker None pattern none fit = true≢false (sym fit)
 no_send_fit sender taker (Some message) pattern none fit = absurd (cc)
 
-sent_to : (sender taker : ℕ) (message : Message) (pattern : Option Pattern) → IsTrue (fits_between sender (Some message) taker pattern) → message.destination ≡ taker
+pub sent_to : (sender taker : ℕ) (message : Message) (pattern : Option Pattern) → IsTrue (fits_between sender (Some message) taker pattern) → message.destination ≡ taker
 sent_to sender taker message None fit = absurd (true≢false (sym fit))
 sent_to sender taker message (Some pattern) fit = eqb-true message.destination taker (and_parts _ _ (and_parts _ _ (and_parts _ _ fit).0).0).0
 
@@ -104,7 +101,7 @@ kind_looks (Send mode blocking own) pattern some = absurd (none-some pattern som
 kind_looks kind pattern some = refl
 
 -- what fits with a call of the program, by both calls
-fit_parts : (p : MpiProgram) (c e rank : ℕ) (known : Call) → call_at p c ≡ Some known → IsTrue (fits_with p c e) → IsTrue (is_of_rank (call_at p e) rank)
+pub fit_parts : (p : MpiProgram) (c e rank : ℕ) (known : Call) → call_at p c ≡ Some known → IsTrue (fits_with p c e) → IsTrue (is_of_rank (call_at p e) rank)
     → (other : Call) × (other.rank ≡ rank) × (IsTrue (both_hold fits (Some known) (Some other)) ⊎ IsTrue (both_hold fits (Some other) (Some known)))
 fit_parts p c e rank known there fit own =
     let other = own_rank (call_at p e) rank own in
@@ -158,58 +155,6 @@ one_rank peer wanted P ranks has holds only other = (
   λ right.
       let same = only other right in
       (has other).1 (holds.1 (subst P same right), same),
-)
-
--- the list has the ranks of such calls below this one, in rising order
-pub record HasMissing (p : MpiProgram) (m : Configuration) (o below : ℕ) (ranks : List ℕ) : Type 0 where
-  pub few : (rank : ℕ) → Contains ranks rank → rank < below
-  pub sound : (rank : ℕ) → Contains ranks rank → IsMissing p m o rank
-  pub whole : (rank : ℕ) → rank < below → IsMissing p m o rank → Contains ranks rank
-  pub rising : AllPairs (λ (one other : ℕ). one < other) ranks
-
-pub HasMissing-none : (p : MpiProgram) (m : Configuration) (o : ℕ) (ranks : List ℕ) → ranks ≡ [] → HasMissing p m o 0 ranks
-HasMissing-none p m o ranks empty = rw empty (record {
-  few = λ rank there. absurd (omega (arith, there.1));
-  sound = λ rank there. absurd (omega (arith, there.1));
-  whole = λ rank below missing. absurd (omega (arith, below));
-  rising = λ i j d before within. absurd (omega (arith, within));
-})
-
-pub HasMissing-push : (p : MpiProgram) (m : Configuration) (o below : ℕ) (old new : List ℕ) → new ≡ old ++ below ∷ [] → IsMissing p m o below → HasMissing p m o below old → HasMissing p m o (below + 1) new
-HasMissing-push p m o below old new grows missing has = subst (HasMissing p m o (below + 1)) (sym grows) (record {
-  few = λ rank there. elim (Contains-push_cases old below rank there) [
-    | inl before ↦ omega (arith, has.few rank before)
-    | inr here ↦ omega (arith, here)
-  ];
-  sound = λ rank there. elim (Contains-push_cases old below rank there) [
-    | inl before ↦ has.sound rank before
-    | inr here ↦ subst (IsMissing p m o) here missing
-  ];
-  whole = λ rank less found. elim (cases_eq rank below) [
-    | inl here ↦ subst (Contains (old ++ below ∷ [])) (sym here) (Contains-push old below)
-    | inr differ ↦ Contains-append_left old (below ∷ []) rank (has.whole rank (omega (arith, less, differ)) found)
-  ];
-  rising = all_pairs_push (λ (one other : ℕ). one < other) old below has.rising (λ k d within. has.few (get_or old k d) (Contains-get_or old k d within));
-})
-
-pub HasMissing-past : (p : MpiProgram) (m : Configuration) (o below : ℕ) (ranks : List ℕ) → (IsMissing p m o below → ⊥) → HasMissing p m o below ranks → HasMissing p m o (below + 1) ranks
-HasMissing-past p m o below ranks none has = record {
-  few = λ rank there. omega (arith, has.few rank there);
-  sound = has.sound;
-  whole = λ rank less found. elim (cases_eq rank below) [
-    | inl here ↦ absurd (none (subst (IsMissing p m o) here found))
-    | inr differ ↦ has.whole rank (omega (arith, less, differ)) found
-  ];
-  rising = has.rising;
-}
-
-pub HasMissing-all : (l : Limits) (p : MpiProgram) (m : Configuration) (o below : ℕ) (ranks : List ℕ) → IsProgramWithin l p → p.ranks ≤ below → HasMissing p m o below ranks → (rank : ℕ) → Contains ranks rank ↔ IsMissing p m o rank
-HasMissing-all l p m o below ranks is end has rank = (
-  has.sound rank,
-  λ missing.
-      let known = own_rank (call_at p missing.call) rank missing.own in
-      let own = (is.in_range missing.call known.0 known.1).own in
-      has.whole rank (omega (arith, end, own, known.2)) missing,
 )
 
 -- ---- for whom a rank waits

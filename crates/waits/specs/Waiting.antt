@@ -90,6 +90,10 @@ pub record IsMissing (p : MpiProgram) (m : Configuration) (o rank : ℕ) : Type 
 abbrev pub IsOnlyPeer : MpiProgram → ℕ → ℕ → Type 0
 IsOnlyPeer p c peer = (e rank : ℕ) → IsTrue (fits_with p c e) → IsTrue (is_of_rank (call_at p e) rank) → rank ≡ peer
 
+-- each call that fits with the call is a send that fits it
+abbrev pub LooksForSends : MpiProgram → ℕ → Type 0
+LooksForSends p c = (e : ℕ) → IsTrue (fits_with p c e) → IsTrue (are_fit p e c)
+
 -- what the operation needs can come from that rank
 abbrev pub CanCome : MpiProgram → Configuration → ℕ → ℕ → Need → Type 0
 CanCome p m o rank Match = IsMissing p m o rank

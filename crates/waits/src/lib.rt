@@ -11,6 +11,7 @@ mod laws;
 mod near;
 mod needs;
 mod parts;
+mod senders;
 mod standings;
 mod waiting;
 
@@ -25,4 +26,4 @@ pub use near::{misses_in, near_misses};
 pub use needs::{Need, need_of, operation_of};
 pub use parts::Mismatch;
 pub use standings::{Standing, standing_of};
-pub use waiting::{awaited, edges};
+pub use waiting::edges;

@@ -1,11 +1,12 @@
 -- What inner functions promise one another, beside `specs/Clocks.antt`.
-use Rattle.std.specs.Prelude.{◌≡◌, ℕ, zero, suc, ◌+◌, ◌<◌, ◌≤◌, ◌⊎◌, Bool, false, IsTrue, List, Option, Some, slice_get, slice_index, ◌&&◌, ◌||◌, None}
+use Rattle.std.specs.Prelude.{◌≡◌, ℕ, zero, suc, ◌+◌, ◌<◌, ◌≤◌, ◌⊎◌, Bool, true, false, IsTrue, List, Option, Some, slice_get, slice_index, ◌&&◌, ◌||◌, None}
 use Rattle.std.specs.Global.{Vec}
 use Rattle.callorder.specs.declared.calls.Call.{Call}
 use Rattle.callorder.specs.Programs.{MpiProgram, call_at, are_fit, are_of_one_rank}
 use Rattle.semantics.specs.Machine.{Configuration, is_issued, partner_of}
 use Rattle.std.specs.Option.{unwrap_or}
 use Rattle.races.specs.Blocks.{Blocks}
+use Rattle.clocks.specs.declared.race.Race.{Race}
 use Rattle.clocks.specs.declared.rows.Count.{Count}
 use Rattle.races.specs.Tells.{Table, tells_issue, knows_at, tells_find, tells_fetch, never_buffers}
 use Rattle.clocks.specs.Clocks.{IsNoRace, IsRival}
@@ -46,11 +47,22 @@ AreRows numbering knows rows = (c : ℕ) (row : Vec ℕ) → slice_get rows c �
 abbrev pub AreTold : Numbering → Table → List Count → Type 0
 AreTold numbering knows told = (c : ℕ) (count : Count) → slice_get told c ≡ Some count → IsCount numbering (knows c) count.column count.count
 
--- rows and counts of some level
-pub record AreSound (p : MpiProgram) (e : Configuration) (numbering : Numbering) (rows : List (Vec ℕ)) (counts : List Count) : Type 0 where
+-- the table tells of the race at the place that its finder has found where its send is issued
+pub record IsToldAt (knows : Table) (asked : List Race) (place : ℕ) : Type 0 where
+  pub race : Race
+  pub there : slice_get asked place ≡ Some race
+  pub tells : IsTrue (knows race.send race.finder)
+
+-- so of each race that is noted as ordered
+abbrev pub AreOrdered : Table → List Race → List Bool → Type 0
+AreOrdered knows asked ordered = (place : ℕ) → slice_get ordered place ≡ Some true → IsToldAt knows asked place
+
+-- rows, counts and notes of some level
+pub record AreSound (p : MpiProgram) (e : Configuration) (numbering : Numbering) (asked : List Race) (rows : List (Vec ℕ)) (counts : List Count) (ordered : List Bool) : Type 0 where
   pub rounds : ℕ
   pub are : AreRows numbering (level p e rounds) rows
   pub told : AreTold numbering (level p e rounds) counts
+  pub orders : AreOrdered (level p e rounds) asked ordered
 
 -- counts of some level
 pub record AreToldSoundly (p : MpiProgram) (e : Configuration) (numbering : Numbering) (counts : List Count) : Type 0 where

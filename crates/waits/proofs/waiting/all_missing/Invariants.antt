@@ -1,5 +1,5 @@
-use Rattle.waits.proofs.NeededRanks.{HasMissing}
+use Rattle.waits.proofs.ComingSends.{HasMissingOf}
 use Rattle.waits.proofs.waiting.all_missing.Given as goal
 
-abbrev pub invariant-loop-rank : goal.invariant-loop-rank
-invariant-loop-rank l = HasMissing l.program l.state l.operation l.rank l.ranks.items
+abbrev pub invariant-loop-place : goal.invariant-loop-place
+invariant-loop-place l = HasMissingOf l.program l.state l.operation l.among l.place l.ranks.items

@@ -5,4 +5,4 @@ use Rattle.waits.proofs.waiting.missing.Goals as goal
 pub returns-clause-ranks : goal.returns-clause-ranks
 returns-clause-ranks c =
     if_ok _ _ c.alone.result (λ ranks has. one_rank c.in-Some.peer c.is_missing.result (IsMissing c.args.program.now c.args.state.now c.args.operation) ranks.items has c.is_missing.ensures
-    (λ other missing. c.in-Some.ensures missing.call other missing.fit missing.own)) c.alone.ensures.ranks
+    (λ other missing. c.in-Some.ensures.some missing.call other missing.fit missing.own)) c.alone.ensures.ranks

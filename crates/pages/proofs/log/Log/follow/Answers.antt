@@ -31,6 +31,6 @@ returns-then-are_first-2-clause-followed c =
     let held = c.len.result - c.args.from in
     let held_is : c.len.result - c.args.from ≡ length c.args.self.now - c.args.from = ap (λ n. n - c.args.from) c.len.ensures.same in
     let within : c.len.result - c.args.from ≤ c.len-then-are_first-2.result = omega (arith, c.if-are_first-2.ensures.within refl, c.len-then-are_first-2.ensures.same) in
-    ok_as c.append.result c.append.new.self (old ++ take (c.len-then-are_first-2.result - held) (drop held lines)) (take from old ++ lines)
-    (ok_as c.append.result c.append.new.self (old ++ c.in_ok-copies.field-0.items) (old ++ take (c.len-then-are_first-2.result - held) (drop held lines)) c.append.ensures.appended (ap (λ (l : List ProofLine). old ++ l) c.in_ok-copies.ensures))
+    ok_as c.append_counted.result c.append_counted.new.self (old ++ take (c.len-then-are_first-2.result - held) (drop held lines)) (take from old ++ lines)
+    (ok_as c.append_counted.result c.append_counted.new.self (old ++ c.in_ok-copies.field-0.items) (old ++ take (c.len-then-are_first-2.result - held) (drop held lines)) c.append_counted.ensures.appended (ap (λ (l : List ProofLine). old ++ l) c.in_ok-copies.ensures))
     (appended from held c.len-then-are_first-2.result old lines held_is within c.len-then-are_first-2.ensures.same (c.if-are_first-2.ensures.same refl))

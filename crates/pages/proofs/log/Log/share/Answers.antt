@@ -11,7 +11,7 @@ invariant_of-self-2 c =
     let least : c.args.kept * 256 ≤ length (joined_pages log.pages.items ++ log.last.items) = omega (arith, c.requires.within, ap length c.self.view_is) in
     let few : c.args.kept * 256 + length (joined_pages other.pages.items ++ other.last.items) < 2 ^ 63 = omega (arith, c.requires.few, ap length c.other.view_is) in
     let later : c.in_ok-later.later.items ≡ other.pages.items = c.in_ok-later.ensures ∙ c.deref.ensures.value in
-    let last : c.go_on.new.lines.items ≡ other.last.items = c.in_ok-go_on.ensures.same ∙ c.deref-2.ensures.value in
+    let last : c.in_ok-last.last.items ≡ other.last.items = c.in_ok-last.ensures ∙ c.deref-2.ensures.value in
     let pages : c.put_behind.new.pages.items ≡ take c.args.kept log.pages.items ++ other.pages.items =
     c.put_behind.ensures ∙ ap (λ (l : List (List ProofLine)). take c.args.kept l ++ c.in_ok-later.later.items) c.in_ok-reserve.ensures.items
     ∙ ap (λ (l : List (List ProofLine)). take c.args.kept log.pages.items ++ l) later in
@@ -25,11 +25,11 @@ returns-clause-shared c =
     let other = c.other.inside in
     let least : c.args.kept * 256 ≤ length (joined_pages log.pages.items ++ log.last.items) = omega (arith, c.requires.within, ap length c.self.view_is) in
     let later : c.in_ok-later.later.items ≡ other.pages.items = c.in_ok-later.ensures ∙ c.deref.ensures.value in
-    let last : c.go_on.new.lines.items ≡ other.last.items = c.in_ok-go_on.ensures.same ∙ c.deref-2.ensures.value in
+    let last : c.in_ok-last.last.items ≡ other.last.items = c.in_ok-last.ensures ∙ c.deref-2.ensures.value in
     let pages : c.put_behind.new.pages.items ≡ take c.args.kept log.pages.items ++ other.pages.items =
     c.put_behind.ensures ∙ ap (λ (l : List (List ProofLine)). take c.args.kept l ++ c.in_ok-later.later.items) c.in_ok-reserve.ensures.items
     ∙ ap (λ (l : List (List ProofLine)). take c.args.kept log.pages.items ++ l) later in
-    ap (λ (l : List (List ProofLine)). joined_pages l ++ c.go_on.new.lines.items) pages
+    ap (λ (l : List (List ProofLine)). joined_pages l ++ c.in_ok-last.last.items) pages
     ∙ ap (λ (l : List ProofLine). joined_pages (take c.args.kept log.pages.items ++ other.pages.items) ++ l) last
     ∙ lines_behind c.args.kept log.pages.items log.last.items other.pages.items other.last.items c.self.invariant least
     ∙ ap (λ (l : List ProofLine). take (c.args.kept * 256) l ++ (joined_pages other.pages.items ++ other.last.items)) c.self.view_is

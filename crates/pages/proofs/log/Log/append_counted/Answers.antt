@@ -1,6 +1,6 @@
 use Rattle.std.proofs.Common.{◌≡◌, suc, ◌∷◌, ◌+◌, ◌*◌, ◌<◌, ◌^◌, length, ap, ◌∙◌, arith, length-append}
 use Rattle.pages.proofs.Joined.{length-paged, paged_more}
-use Rattle.pages.proofs.log.Log.append.Goals as goal
+use Rattle.pages.proofs.log.Log.append_counted.Goals as goal
 
 pub invariant_of-self-2 : goal.invariant_of-self-2
 invariant_of-self-2 c =

@@ -2,7 +2,7 @@ use Rattle.std.proofs.Common.{◌≡◌, ◌*◌, ◌+◌, ◌-◌, ◌/◌, ◌
 use Rattle.std.specs.List.{slice_get}
 use Rattle.pages.specs.Pages.{joined_pages}
 use Rattle.pages.proofs.Joined.{got, get-in_page, get-after_pages}
-use Rattle.pages.proofs.log.Log.get.Goals as goal
+use Rattle.pages.proofs.log.Log.held_at.Goals as goal
 use Rattle.refutations.specs.Proofs.{ProofLine}
 
 pub returns-in-Some : goal.returns-in-Some

@@ -1,6 +1,0 @@
-use Rattle.clocks.specs.parts.Clocks.{AreSound}
-use Rattle.knowledge.specs.Knowledge.{with_partners}
-use Rattle.clocks.proofs.rows.told_of.Given as goal
-
-abbrev pub invariant-loop-step : goal.invariant-loop-step
-invariant-loop-step l = AreSound l.program (with_partners l.partners) l.columns l.known.rows.items l.known.told.items
