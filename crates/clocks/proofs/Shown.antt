@@ -29,8 +29,8 @@ use Rattle.std.proofs.lemmas.List.Sums.{sum_by-cons}
 use Rattle.std.proofs.lemmas.List.FromFn.{get_or-map-range_with_len}
 use Rattle.clocks.specs.declared.race.Race.{Race}
 use Rattle.clocks.specs.declared.rows.Count.{Count}
-use Rattle.clocks.specs.parts.Clocks.{Numbering, AreToldSoundly, HasEarlier, IsTaken, IsSingle, IsSurePartner, IsChecked, IsRivalIfSingle, level, rounds}
-use Rattle.clocks.specs.Clocks.{IsNoRace, ShowsAll, HasNoRaceShown, IsRival}
+use Rattle.clocks.specs.parts.Clocks.{Numbering, AreToldSoundly, HasEarlier, IsTaken, IsSingle, IsSurePartner, IsChecked, level, rounds}
+use Rattle.clocks.specs.Clocks.{HasNoRaceShown, IsNoRace, IsOpenOfBlocks, IsRival, IsRivalOfBlock, IsUnordered, ShowsAll}
 use Rattle.clocks.specs.Spans.{AreSpans}
 use Rattle.clocks.proofs.Members.{chain, name_below, named_from, spans_are_blocks}
 use Rattle.std.specs.Option.{unwrap_or}
@@ -253,8 +253,65 @@ sure_push block e old new n v size is h last c x there =
           subst (λ (z : ℕ). IsSurePartner block e z x) at (subst (λ (o : Option ℕ). IfSome o (IsSurePartner block e n)) w.1 last)
     ]
 
--- where each call is a block of its own, each race is one of a finder that is
-pub rivals_if_single : (p : MpiProgram) (block : Blocks) (e : Configuration) (r : Result (Option Race) AllocError) → ((c : ℕ) → IsSingle block c) → IfOk r (λ found. IfSome found (λ race. IsRivalIfSingle p block e race.send race.finder)) → IfOk r (λ found. IfSome found (IsRival p e))
+-- where each call is a block of its own, each rival is one of another rank
+alone : (p : MpiProgram) (block : Blocks) (e : Configuration) (race : Race) → ((c : ℕ) → IsSingle block c) → IsRivalOfBlock p block e race.send race.finder → IsRival p e race
+alone p block e race single rival = record {
+  own = rival.own;
+  found = rival.found;
+  fits = rival.fits;
+  apart = elim rival.apart [ inl apart ↦ apart | inr joined ↦ absurd (joined (single race.finder)) ];
+  later = λ taker took upto. rival.later taker took (inl upto);
+}
+
+pub rivals_if_single : (p : MpiProgram) (block : Blocks) (e : Configuration) (r : Result (Option Race) AllocError) → ((c : ℕ) → IsSingle block c)
+    → IfOk r (λ found. IfSome found (λ race. IsRivalOfBlock p block e race.send race.finder)) → IfOk r (λ found. IfSome found (IsRival p e))
 rivals_if_single p block e (Ok None) single h = h
-rivals_if_single p block e (Ok (Some race)) single h = h (single race.finder)
+rivals_if_single p block e (Ok (Some race)) single h = alone p block e race single h
 rivals_if_single p block e (Err error) single h = h
+
+-- where a partner is there or none is sure, all that are sure are there
+pub every_push : (block : Blocks) (e : Configuration) (old new : List (Option ℕ)) (n : ℕ) (v : Option ℕ) → length old ≡ n → new ≡ old ++ v ∷ []
+    → ((c x : ℕ) → c < n → IsSurePartner block e c x → partner_of (with_partners old) c ≡ Some x) → IfSome v (IsSurePartner block e n) → IfNone v ((x : ℕ) → IsSurePartner block e n x → ⊥)
+    → (c x : ℕ) → c < n + 1 → IsSurePartner block e c x → partner_of (with_partners new) c ≡ Some x
+every_push block e old new n v size is known some none c x within sure =
+    subst (λ (z : List (Option ℕ)). unwrap_or (slice_get z c) None ≡ Some x) (sym is) (elim (cases_lt c n) [
+      | inl below ↦ still old v c x (omega (arith, below, size)) ∙ known c x below sure
+      | inr ge ↦
+          let at : c ≡ length old = omega (arith, size, ge, within) in
+          subst (λ (z : ℕ). unwrap_or (slice_get (old ++ v ∷ []) z) None ≡ Some x) (sym at)
+          (there old v ∙ same v some none (subst (λ (z : ℕ). IsSurePartner block e z x) (at ∙ size) sure))
+    ])
+  where
+    still : (xs : List (Option ℕ)) (v : Option ℕ) (c x : ℕ) → c < length xs → unwrap_or (slice_get (xs ++ v ∷ []) c) None ≡ unwrap_or (slice_get xs c) None
+    still [] v c x within = absurd (omega (arith, within))
+    still (y ∷ xs) v zero x within = refl
+    still (y ∷ xs) v (suc c) x within = still xs v c x (omega (arith, within))
+
+    there : (xs : List (Option ℕ)) (v : Option ℕ) → unwrap_or (slice_get (xs ++ v ∷ []) (length xs)) None ≡ v
+    there [] v = refl
+    there (y ∷ xs) v = there xs v
+
+    same : (v : Option ℕ) → IfSome v (IsSurePartner block e n) → IfNone v ((x : ℕ) → IsSurePartner block e n x → ⊥) → IsSurePartner block e n x → v ≡ Some x
+    same None some none sure = absurd (none x sure)
+    same (Some y) some none sure = sym some.found ∙ sure.found
+
+-- no call behind the last one has a partner
+pub every_partner : (p : MpiProgram) (block : Blocks) (e : Configuration) (partners : List (Option ℕ)) (n : ℕ) → length p.calls ≤ n → length e.partner ≡ length p.calls
+    → ((c x : ℕ) → c < n → IsSurePartner block e c x → partner_of (with_partners partners) c ≡ Some x) → (c x : ℕ) → IsSurePartner block e c x → partner_of (with_partners partners) c ≡ Some x
+every_partner p block e partners n all of known c x sure = elim (cases_lt c n) [
+  | inl below ↦ known c x below sure
+  | inr ge ↦ let none : None ≡ Some x = sym (past e.partner c (omega (arith, of, all, ge))) ∙ sure.found in let never : ⊥ = cc in absurd never
+]
+  where
+    past : (xs : List (Option ℕ)) (c : ℕ) → length xs ≤ c → unwrap_or (slice_get xs c) None ≡ None
+    past [] zero within = refl
+    past [] (suc c) within = refl
+    past (y ∷ xs) zero within = absurd (omega (arith, within))
+    past (y ∷ xs) (suc c) within = past xs c (omega (arith, within))
+
+-- the race that is found is left open by blocks
+pub open_of_blocks : (p : MpiProgram) (block : Blocks) (e sure : Configuration) (found : Option Race) → ((c x : ℕ) → partner_of sure c ≡ Some x → IsSurePartner block e c x)
+    → ((c x : ℕ) → IsSurePartner block e c x → partner_of sure c ≡ Some x) → IfSome found (λ race. IsRivalOfBlock p block e race.send race.finder)
+    → IfSome found (IsUnordered p sure) → IfSome found (IsOpenOfBlocks p block e)
+open_of_blocks p block e sure None only all rival unordered = tt
+open_of_blocks p block e sure (Some race) only all rival unordered = record { sure = sure; only = only; all = all; rival = rival; unordered = unordered }

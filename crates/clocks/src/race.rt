@@ -1,6 +1,6 @@
 //! The first race of a run.
 
-ghost use Rattle.std.specs.Prelude.{◌≡◌, ◌≤◌, ◌<◌, ℕ, IfOk, IfNone, IfSome, Bool, IsTrue, List, Option, Some, slice_get, true, false};
+ghost use Rattle.std.specs.Prelude.{◌≡◌, ◌⊎◌, ◌≤◌, ◌<◌, ℕ, IfOk, IfNone, IfSome, Bool, IsTrue, List, Option, Some, slice_get, true, false};
 ghost use Rattle.semantics.specs.RunEnds.{IsFinishedRun};
 ghost use Rattle.semantics.specs.Configurations.{IsConfigurationOf};
 ghost use Rattle.semantics.specs.Machine.{opening, after_all, partner_of};
@@ -8,9 +8,9 @@ ghost use Rattle.races.specs.Races.{BuffersNoneByChoice, NamesSources};
 ghost use Rattle.races.specs.Tells.{Table};
 ghost use Rattle.semantics.specs.Headline.{NoStuckRun};
 ghost use Rattle.std.specs.Global.{Vec};
-ghost use Rattle.clocks.specs.parts.Clocks.{AreTold, IsCount, Numbering, IsChecked, IsTaken, IsSingle, IsSurePartner, IsRivalIfSingle, block_of};
+ghost use Rattle.clocks.specs.parts.Clocks.{AreTold, IsCount, Numbering, IsChecked, IsTaken, block_of};
 ghost use Rattle.knowledge.specs.Knowledge.{with_partners};
-ghost use Rattle.clocks.specs.Clocks.{IsNoRace, HasNoRaceShown, IsRival, IsUnordered};
+ghost use Rattle.clocks.specs.Clocks.{HasNoRaceShown, HasRaceOfBlocks, IsNoRace, IsOpenOfBlocks, IsRival, IsRivalOfBlock, IsSingle, IsSurePartner, IsUnordered};
 ghost use Rattle.clocks.specs.parts.Exact.{IsAsked, IsUnorderedBy, ShowsFrom};
 ghost use Rattle.clocks.specs.parts.Finders.{AreCovers, AreNoRaces, IsListing, IsLookedAt, IsRising, Sends, group_at};
 ghost use Rattle.clocks.specs.Spans.{AreSpans};
@@ -59,7 +59,8 @@ fn is_known(columns: &Columns, told: &[Count], call: usize, finder: usize) -> bo
 /// Whether the send is matched with a call up to the finder, or within its block.
 fn is_taken(state: &State, names: &[usize], send: usize, finder: usize) -> bool
     ensures taken { IsTrue result → IsTaken (block_of names.now) state.now send finder }
-    ensures later { result ≡ false → (taker : ℕ) → partner_of state.now send ≡ Some taker → taker ≤ finder → ⊥ }
+    ensures later { result ≡ false → (taker : ℕ) → partner_of state.now send ≡ Some taker →
+        (taker ≤ finder) ⊎ (block_of names.now taker ≡ block_of names.now finder) → ⊥ }
 {
     match state.partner(send) {
         None => false,
@@ -81,9 +82,13 @@ fn is_of_own_rank(
     other: usize,
 ) -> bool
     ensures one { IsTrue result → IsTrue (are_of_one_rank program.now own other) × IsSingle (block_of names.now) finder }
-    ensures apart { result ≡ false → IsSingle (block_of names.now) finder → are_of_one_rank program.now own other ≡ false }
+    ensures apart { result ≡ false →
+        (are_of_one_rank program.now own other ≡ false) ⊎ (IsSingle (block_of names.now) finder → ⊥) }
 {
-    program.are_of_one_rank(own, other) && is_single(names, finder)
+    if !program.are_of_one_rank(own, other) {
+        return false;
+    }
+    is_single(names, finder)
 }
 
 /// Whether it is shown that the other send doesn't race for the finder, which found its own.
@@ -101,7 +106,7 @@ fn is_no_race(
     ensures none { IsTrue result → (knows : Table) → AreTold columns.now knows told.now →
         IsNoRace program.now (block_of names.now) state.now knows finder own other }
     ensures rival { result ≡ false → partner_of state.now finder ≡ Some own →
-        IsRivalIfSingle program.now (block_of names.now) state.now other finder }
+        IsRivalOfBlock program.now (block_of names.now) state.now other finder }
 {
     if !program.are_fit(other, finder) {
         return true;
@@ -129,7 +134,7 @@ pub fn is_no_race_if_found(
     ensures none { IsTrue result → (knows : Table) → AreTold columns.now knows told.now → (own : ℕ) →
         partner_of state.now finder ≡ Some own →
         IsNoRace program.now (block_of names.now) state.now knows finder own other }
-    ensures rival { result ≡ false → IsRivalIfSingle program.now (block_of names.now) state.now other finder }
+    ensures rival { result ≡ false → IsRivalOfBlock program.now (block_of names.now) state.now other finder }
 {
     match state.partner(finder) {
         None => true,
@@ -177,7 +182,7 @@ fn race_at(
     ensures none { IfOk result (λ found.
         IfNone found (ShowsFrom program.now (with_partners exact.old.partners) columns.now told.now
         (IsLookedAt program.now (block_of names.now) state.now (group_at finders.now group) place other))) }
-    ensures rival { IfOk result (λ found. IfSome found (IsRivalIfSingle program.now (block_of names.now) state.now other)) }
+    ensures rival { IfOk result (λ found. IfSome found (IsRivalOfBlock program.now (block_of names.now) state.now other)) }
     ensures unordered { IfOk result (λ found. IfSome found (λ finder.
         IsUnorderedBy program.now (with_partners exact.old.partners) other finder)) }
 {
@@ -220,7 +225,7 @@ fn race_in_group(
     ensures none { IfOk result (λ found.
         IfNone found (ShowsFrom program.now (with_partners exact.old.partners) columns.now told.now
         (AreNoRaces program.now (block_of names.now) state.now (group_at finders.now group) first end other))) }
-    ensures rival { IfOk result (λ found. IfSome found (IsRivalIfSingle program.now (block_of names.now) state.now other)) }
+    ensures rival { IfOk result (λ found. IfSome found (IsRivalOfBlock program.now (block_of names.now) state.now other)) }
     ensures unordered { IfOk result (λ found. IfSome found (λ finder.
         IsUnorderedBy program.now (with_partners exact.old.partners) other finder)) }
 {
@@ -275,7 +280,7 @@ fn race_of_send(
     ensures none { IfOk result (λ found.
         IfNone found (ShowsFrom program.now (with_partners exact.old.partners) columns.now told.now (λ more.
         IsChecked program.now (block_of names.now) state.now more other))) }
-    ensures rival { IfOk result (λ found. IfSome found (IsRivalIfSingle program.now (block_of names.now) state.now other)) }
+    ensures rival { IfOk result (λ found. IfSome found (IsRivalOfBlock program.now (block_of names.now) state.now other)) }
     ensures unordered { IfOk result (λ found. IfSome found (λ finder.
         IsUnorderedBy program.now (with_partners exact.old.partners) other finder)) }
 {
@@ -348,7 +353,7 @@ fn race_in(
         IfNone found (ShowsFrom program.now (with_partners exact.old.partners) columns.now told.now (λ more.
         (other : ℕ) → IsChecked program.now (block_of names.now) state.now more other))) }
     ensures rival { IfOk result (λ found. IfSome found (λ race.
-        IsRivalIfSingle program.now (block_of names.now) state.now race.send race.finder)) }
+        IsRivalOfBlock program.now (block_of names.now) state.now race.send race.finder)) }
     ensures unordered { IfOk result (λ found. IfSome found (IsUnordered program.now (with_partners exact.old.partners))) }
 {
     for send in 0..program.calls().len() {
@@ -381,6 +386,7 @@ fn last_state(alloc: Global, program: &LongProgram, run: &[Step]) -> Result<Stat
 /// The partner of the call, where neither of the two is of a block with others.
 fn sure_partner(state: &State, names: &[usize], call: usize) -> Option<usize>
     ensures sure { IfSome result (λ partner. IsSurePartner (block_of names.now) state.now call partner) }
+    ensures none { IfNone result ((partner : ℕ) → IsSurePartner (block_of names.now) state.now call partner → ⊥) }
     ensures all { ((c : ℕ) → IsSingle (block_of names.now) c) → result ≡ partner_of state.now call }
 {
     match state.partner(call) {
@@ -408,6 +414,8 @@ fn partners_of(
     requires { IsConfigurationOf program.now state.now }
     ensures sure { IfOk result (λ partners. (c x : ℕ) → partner_of (with_partners partners.items) c ≡ Some x →
         IsSurePartner (block_of names.now) state.now c x) }
+    ensures every { IfOk result (λ partners. (c x : ℕ) → IsSurePartner (block_of names.now) state.now c x →
+        partner_of (with_partners partners.items) c ≡ Some x) }
     ensures all { IfOk result (λ partners. ((c : ℕ) → IsSingle (block_of names.now) c) → (c : ℕ) →
         partner_of (with_partners partners.items) c ≡ partner_of state.now c) }
 {
@@ -430,6 +438,7 @@ fn race_of(
     ensures none { IfOk result (λ found. IfNone found (HasNoRaceShown program.now state.now)) }
     ensures rival { IfOk result (λ found. IfSome found (IsRival program.now state.now)) }
     ensures unordered { IfOk result (λ found. IfSome found (IsUnordered program.now state.now)) }
+    ensures blocks { IfOk result (λ found. IfSome found (λ _race. HasRaceOfBlocks program.now state.now)) }
 {
     let names = names_of(alloc, program, state)?;
     match race_by(alloc, program, state, names.as_slice(), run) {
@@ -467,9 +476,10 @@ fn race_by(
     requires of { IsConfigurationOf program.now state.now }
     ensures none { IfOk result (λ found. IfNone found (HasNoRaceShown program.now state.now)) }
     ensures rival { IfOk result (λ found. IfSome found (λ race.
-        IsRivalIfSingle program.now (block_of names.now) state.now race.send race.finder)) }
+        IsRivalOfBlock program.now (block_of names.now) state.now race.send race.finder)) }
     ensures unordered { IfOk result (λ found. IfSome found (λ race. ((c : ℕ) →
         IsSingle (block_of names.now) c) → IsUnordered program.now state.now race)) }
+    ensures blocks { IfOk result (λ found. IfSome found (IsOpenOfBlocks program.now (block_of names.now) state.now)) }
 {
     let _calls = program.calls();
     let partners = partners_of(alloc, program, state, names)?;
@@ -516,7 +526,9 @@ fn race_by(
 /// buffered, as in what `least_buffered_run` makes.
 ///
 /// Where there is none, no run of the program is stuck. There is none where each receive, matched
-/// probe and probe names its source. Of a race that is told no rule tells that the send is issued
+/// probe and probe names its source. A race is told only where receives that may stand for one
+/// another, taken together as far as they may be, leave one open too. Of the one that is told no rule
+/// tells that the send is issued
 /// only where the finder has found, but it proves nothing: it may be that no run is stuck even so.
 /// Calls, in the steps and in the race, count from 0. The only error is want of memory.
 pub fn first_race(
@@ -530,6 +542,7 @@ pub fn first_race(
     ensures named { NamesSources program.now → result ≡ Ok None }
     ensures race { IfOk result (λ found. IfSome found (IsRival program.now (after_all (opening program.now) run.now))) }
     ensures unordered { IfOk result (λ found. IfSome found (IsUnordered program.now (after_all (opening program.now) run.now))) }
+    ensures blocks { IfOk result (λ found. IfSome found (λ _race. HasRaceOfBlocks program.now (after_all (opening program.now) run.now))) }
 {
     let _calls = program.calls();
     if names_sources(program) {

@@ -14,6 +14,7 @@ use Rattle.calltext.specs.declared.call.Mode.{Mode}
 use Rattle.calltext.specs.declared.call.Mode.TheVariants.{Standard, Synchronous, Buffered}
 use Rattle.clocks.specs.declared.reads.DoneOperation.{DoneOperation}
 use Rattle.clocks.specs.declared.reads.Read.{Read}
+pub use Rattle.clocks.specs.Clocks.{IsSingle, IsSurePartner}
 
 -- what is known after so many rounds of the rule, from nothing
 abbrev pub level : MpiProgram → Configuration → ℕ → Table
@@ -114,26 +115,11 @@ pub record IsOfRank (p : MpiProgram) (c rank : ℕ) : Type 0 where
   pub there : call_at p c ≡ Some call
   pub own : call.rank ≡ rank
 
--- neither the call before it nor the one behind it has the name of this one
-pub record IsSingle (block : Blocks) (c : ℕ) : Type 0 where
-  pub behind : block (suc c) ≡ block c → ⊥
-  pub before : (b : ℕ) → suc b ≡ c → block b ≡ block c → ⊥
-
--- the call's partner, where neither has a fellow
-pub record IsSurePartner (block : Blocks) (e : Configuration) (c x : ℕ) : Type 0 where
-  pub found : partner_of e c ≡ Some x
-  pub single : IsSingle block c
-  pub other : IsSingle block x
-
 -- the send is matched with no later call than the finder, or within its block
 pub record IsTaken (block : Blocks) (e : Configuration) (send finder : ℕ) : Type 0 where
   pub taker : ℕ
   pub found : partner_of e send ≡ Some taker
   pub which : (taker ≤ finder) ⊎ (block taker ≡ block finder)
-
--- so, where the finder is a block of its own
-abbrev pub IsRivalIfSingle : MpiProgram → Blocks → Configuration → ℕ → ℕ → Type 0
-IsRivalIfSingle p block e send finder = IsSingle block finder → IsRival p e (record { send = send; finder = finder })
 
 -- whatever the first rule tells, by any table, the second one does
 abbrev pub Leads : (Table → ℕ → Bool) → (Table → ℕ → Bool) → Type 0
