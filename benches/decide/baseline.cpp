@@ -78,6 +78,21 @@ static void reduce(Maker &m, u32 ranks, u32 tag, bool any_source) {
     }
 }
 
+// Rank 0 has a receive of any source open for each other rank and tag; the others send in turn, the highest tag first, and a
+// token goes between them. So which receives have found no count of rank 0's tells.
+static void exact(Maker &m, u32 ranks, u32 iterations) {
+    std::vector<u32> open;
+    for (u32 r = 1; r < ranks; r++)
+        for (u32 i = 0; i < iterations; i++) open.push_back(m.irecv(0, NONE, i));
+    for (u32 q : open) m.wait(0, q);
+    for (u32 i = iterations; i-- > 0;)
+        for (u32 r = 1; r < ranks; r++) {
+            if (r > 1 || i + 1 < iterations) m.recv(r, r > 1 ? r - 1 : ranks - 1, iterations);
+            m.send(r, 0, i, SYNCHRONOUS);
+            if (r + 1 < ranks || i) m.send(r, r + 1 < ranks ? r + 1 : 1, iterations, BUFFERED);
+        }
+}
+
 // Messages that are told apart by their tags, or by who can send them, and are taken from any source. False: there is no such program.
 static bool any_source(Maker &m, const std::string &name, u32 ranks, u32 iterations) {
     std::vector<u32> open;
@@ -121,6 +136,10 @@ static bool any_source(Maker &m, const std::string &name, u32 ranks, u32 iterati
 static Program program(const std::string &name, u32 ranks, u32 iterations) {
     Maker m(ranks);
     if (any_source(m, name, ranks, iterations)) return m.make(ANY);
+    if (name == "exact") {
+        exact(m, ranks, iterations);
+        return m.make(ANY);
+    }
     u32 side = std::lround(std::sqrt((double)ranks));
     Policy policy = ANY;
     for (u32 i = 0; i < iterations; i++) {

@@ -4,6 +4,7 @@ ghost use Rattle.std.specs.Prelude.{IfErr, IfNone, IfOk, IfSome, OnOk};
 ghost use Rattle.shrinking.specs.Left.{AreLeft};
 ghost use Rattle.shrinking.specs.Shrinking.{CanHangLong, IsNotShrunkLong, IsShrunkLong};
 
+use crate::alone::cycle_alone;
 use crate::driving::{Shrunk, shrunk_of};
 use crate::excerpts::Excerpt;
 use crate::leaving::{without_over, without_ranks, without_units};
@@ -96,9 +97,35 @@ fn leave_out_parts(
     Ok(())
 }
 
+/// Leaves out all but a cycle of many ranks, each of which waits for one other only, if it is all
+/// that is unfinished and hangs alone. Answers whether that is what is left.
+fn leave_cycle(alloc: Global, best: &mut Hanging, left: &mut u64) -> Result<bool, AllocError>
+    requires { CanHangLong best.old.excerpt.text.items }
+    ensures { OnOk result (IsShrunkLong best.old.excerpt.text.items best.new.excerpt.text.items) }
+{
+    let found = cycle_alone(alloc, best)?;
+    let Some(candidate) = found else {
+        return Ok(false);
+    };
+    let length = candidate.text.len();
+    improve_long(alloc, best, candidate, left)?;
+    Ok(best.excerpt.text.len() == length && best.units.unbalanced.is_empty())
+}
+
+/// Leaves out what the run is done with, since the text is small without it, and then all but a
+/// cycle. Answers whether a cycle alone is what is left.
+fn leave_out_over(alloc: Global, best: &mut Hanging, left: &mut u64) -> Result<bool, AllocError>
+    requires { CanHangLong best.old.excerpt.text.items }
+    ensures { OnOk result (IsShrunkLong best.old.excerpt.text.items best.new.excerpt.text.items) }
+{
+    let unended = without_over(alloc, best)?;
+    improve_long(alloc, best, unended, left)?;
+    leave_cycle(alloc, best, left)
+}
+
 /// Leaves out ranks and units, again and again until nothing more can be left out or no work is
-/// left; what the run is done with goes first, since the text is small without it. Answers whether
-/// all was tried.
+/// left, or a cycle alone is left: without one of its calls the ranks would go on. Answers whether
+/// all was tried, or such a cycle is left.
 fn leave_out_long(alloc: Global, best: &mut Hanging, work: u64) -> Result<bool, AllocError>
     requires { CanHangLong best.old.excerpt.text.items }
     ensures { OnOk result (IsShrunkLong best.old.excerpt.text.items best.new.excerpt.text.items) }
@@ -106,8 +133,9 @@ fn leave_out_long(alloc: Global, best: &mut Hanging, work: u64) -> Result<bool, 
     let mut left = work;
     for _turn in 0..best.excerpt.text.len() {
         let before = best.excerpt.text.len();
-        let unended = without_over(alloc, best)?;
-        improve_long(alloc, best, unended, &mut left)?;
+        if leave_out_over(alloc, best, &mut left)? {
+            return Ok(true);
+        }
         leave_out_parts(alloc, best, Part::Ranks, &mut left)?;
         leave_out_parts(alloc, best, Part::Units, &mut left)?;
         if left == 0 || best.excerpt.text.len() == before {
@@ -146,8 +174,10 @@ fn not_shrunk(alloc: Global, text: &[u8]) -> NotShrunkLong
 
 /// A smaller program's text, for a text of any length, whose run that buffers least ends stuck: no
 /// longer than the one given, and with no more lines. All calls that the run is done with are left
-/// out at once; then ranks, half of them at once and then fewer and fewer, with all calls that name
-/// them; then calls, in the same way. With a send goes the call that took its message in the run,
+/// out at once. Where the others are then many ranks in a cycle, each of which waits for one other
+/// only, all calls are left out but those that they wait for, and where these hang alone that is
+/// all. Else ranks are left out, half of them at once and then fewer and fewer, with all calls that
+/// name them; then calls, in the same way. With a send goes the call that took its message in the run,
 /// or may take it, or misses it by a tag, a communicator or a rank alone; with a start its wait,
 /// with a matched probe its receive. Where the sends and the takers of a channel differ in number,
 /// the last one of a side stays as long as a call of the other side does. Each candidate is read

@@ -173,6 +173,58 @@ pub fn without_units(
     without_marked(alloc, hanging, marks)
 }
 
+/// Takes the mark off the rank.
+fn keep_rank(ranks: &mut [bool], rank: u32) {
+    if let Some(mark) = ranks.get_mut(rank as usize) {
+        *mark = false;
+    }
+}
+
+/// For each rank whether no call that stays is of it, or names it.
+fn untouched_ranks(
+    alloc: Global,
+    hanging: &Hanging,
+    left_out: &[bool],
+) -> Result<Vec<bool>, AllocError> {
+    let mut ranks = vec![in alloc; true; hanging.program.ranks() as usize]?;
+    for (place, call) in hanging.program.calls().iter().enumerate() {
+        if !is_marked(left_out, place) {
+            keep_rank(&mut ranks, call.rank);
+            if let Some(message) = call.kind.message() {
+                keep_rank(&mut ranks, message.destination);
+            }
+            if let Some(pattern) = call.kind.pattern()
+                && let Some(source) = pattern.source
+            {
+                keep_rank(&mut ranks, source);
+            }
+        }
+    }
+    Ok(ranks)
+}
+
+/// The text without all units but these, and but for those that calls that stay have their last
+/// partner in, and without the ranks that no call then is of or names. It takes time near linear in
+/// the text.
+pub fn without_others(
+    alloc: Global,
+    hanging: &Hanging,
+    kept: &[bool],
+) -> Result<Excerpt, AllocError> {
+    let mut marks = Vec::with_capacity(alloc, kept.len())?;
+    for unit in kept {
+        marks.push(!*unit)?;
+    }
+    keep_partners(
+        &hanging.units.unbalanced,
+        &hanging.units.of_calls,
+        &mut marks,
+    );
+    let calls = calls_of(alloc, &hanging.units, &marks)?;
+    let ranks = untouched_ranks(alloc, hanging, &calls)?;
+    without(alloc, &hanging.excerpt, &LeftOut { calls, ranks })
+}
+
 /// The text without these ranks, by their numbers, and without the units that have a call of one of
 /// them, or one that names one; the whole text, where a call that stays would lose its last
 /// partner. It takes time near linear in the text.

@@ -3,6 +3,7 @@
 //! buffers least.
 #![tactic(auto)]
 
+mod alone;
 mod cutting;
 mod driving;
 mod excerpts;
