@@ -8,3 +8,4 @@ pub mod Answered
 pub mod SettingParts
 pub mod Parameters
 pub mod Orders
+pub mod OneOutcome

@@ -34,6 +34,12 @@ pub record MeansOutcome (bytes : List ℕ) (ranks : ℕ) (settings : List (List 
   pub set : values_of_settings text settings ≡ Ok values
   pub run : text_run text.program values ranks barriers 18446744073709551615 10000000 ≡ outcome
 
+-- Some bytes mean one thing: whatever text is read from them, the outcome is the same.
+abbrev pub OutcomesAreOne : Type 0
+OutcomesAreOne =
+    (bytes : List ℕ) (ranks : ℕ) (settings : List (List ℕ)) (barriers : Bool) (t u : SpmdText) (one other : Outcome)
+    → MeansOutcome bytes ranks settings barriers t one → MeansOutcome bytes ranks settings barriers u other → one ≡ other
+
 -- the map, where it is wanted
 abbrev pub IsMapWanted : Bool → List ℕ → Option (List ℕ) → Type 0
 IsMapWanted true wanted made = made ≡ Some wanted

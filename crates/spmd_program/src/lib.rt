@@ -2,6 +2,7 @@
 //! and what is told of a text that has none.
 #![tactic(auto)]
 
+mod laws;
 mod lines;
 mod maps;
 mod names;
@@ -13,6 +14,7 @@ mod settings;
 mod told;
 mod unrolling;
 
+pub use laws::outcomes_are_one;
 pub use maps::map_text;
 pub use program::program_text;
 pub use ranges::{Ranks, ranks_of};

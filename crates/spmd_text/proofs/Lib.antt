@@ -43,3 +43,10 @@ pub mod LineEnds
 pub mod Stuck
 pub mod BlockLines
 pub mod TextLines
+pub mod OneExpression
+pub mod OnePart
+pub mod OneCall
+pub mod FirstWords
+pub mod OneStatement
+pub mod OneRow
+pub mod OneText

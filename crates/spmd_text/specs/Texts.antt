@@ -1,5 +1,6 @@
 -- What a text says.
 use Rattle.std.specs.Prelude.{◌≡◌, ◌⊎◌, ℕ, ◌<◌, ◌≤◌, Bool, true, false, List, [], length, map, Some, Ok, Err, if◌then◌else◌}
+use Rattle.spmd_tree.specs.Plain.{Place, plain}
 use Rattle.spmd_text.specs.declared.reading.SpmdText.{SpmdText}
 use Rattle.spmd_text.specs.declared.fault.ParseFault.{ParseFault}
 use Rattle.spmd_text.specs.declared.fault.ParseReason.{ParseReason}
@@ -59,3 +60,15 @@ grammar_fault fault = if is_memory_reason fault.reason then Memory else Grammar 
 abbrev pub PieceFaultsAreTold : Type 0
 PieceFaultsAreTold = (bytes : List ℕ) (fault : ParseFault) → length bytes ≤ 65536 → pieces_of bytes ≡ Err fault
     → ((text : SpmdText) → IsSpmdText text bytes → ⊥) × ((e : TextFault) → HasTextFault bytes e → (e ≡ Memory) ⊎ (e ≡ Pieces fault))
+
+-- Both say the same: they have the same policy, names and parameters, and their trees differ at
+-- most in where boxes stand and in how statements one after another are put into pairs.
+pub record AreOneText (t u : SpmdText) : Type 0 where
+  pub policy : t.policy ≡ u.policy
+  pub program : (p : Place) → plain p t.program ≡ plain p u.program
+  pub names : map (λ n. n.items) t.names.items ≡ map (λ n. n.items) u.names.items
+  pub parameters : t.parameters.items ≡ u.parameters.items
+
+-- What bytes say is one text: the grammar is not ambiguous.
+abbrev pub TextsAreOne : Type 0
+TextsAreOne = (bytes : List ℕ) (t u : SpmdText) → IsSpmdText t bytes → IsSpmdText u bytes → AreOneText t u

@@ -21,6 +21,6 @@ mod words;
 
 pub use fault::{ParseFault, ParseReason, TextFault};
 pub use heading::is_spmd;
-pub use laws::piece_faults_are_told;
+pub use laws::{piece_faults_are_told, texts_are_one};
 pub use lexer::place_of;
 pub use reading::{SpmdPolicy, SpmdText, parse};

@@ -3,3 +3,4 @@ pub mod Ranks
 pub mod Apart
 pub mod Spelling
 pub mod Staying
+pub mod Meanings

@@ -19,6 +19,8 @@ mod whole;
 
 pub use call::{Fault, Group, Label, Placed, Turn, UnrolledCall};
 pub use expression::evaluate;
-pub use laws::{collectives_are_apart, groups_are_spelled_alike, numbers_stay};
+pub use laws::{
+    collectives_are_apart, groups_are_spelled_alike, numbers_stay, plain_forms_mean_the_same,
+};
 pub use value::{FaultReason, Value};
 pub use whole::{Refusal, UnrollLimits, Unrolled, unroll};

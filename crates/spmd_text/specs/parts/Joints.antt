@@ -1,7 +1,6 @@
 -- What inner functions promise one another, beside `specs/Joints.antt`.
 use Rattle.std.specs.Prelude.{ℕ, Bool, true, false, ◌&&◌, nat_eq, nat_le, nat_lt, List, [], ◌∷◌, Option, Some, None, if◌then◌else◌}
-use Rattle.std.specs.declared.alloc.Global.{Global}
-use Rattle.std.specs.declared.boxed.Box.{Box}
+pub use Rattle.spmd_tree.specs.Plain.{Place}
 use Rattle.spmd_tree.specs.declared.tree.Operator.{Operator}
 use Rattle.spmd_tree.specs.declared.tree.Operator.TheVariants as operator
 use Rattle.spmd_tree.specs.declared.tree.Comparison.TheVariants as comparison
@@ -65,10 +64,6 @@ is_lone_operator _ = true
 abbrev pub is_lone : Joint → Bool
 is_lone (joint.Between o) = is_lone_operator o
 is_lone _ = false
-
--- where a box stands
-abbrev pub Place : Type 0
-Place = Box (Unit {0}) Global
 
 -- a joint that binds so close goes on with a row of joints that bind so close: comparisons stand
 -- alone
