@@ -6,6 +6,7 @@
 #include <string.h>
 
 #define MOST_TAG 32767
+#define MOST_COMMUNICATOR 255
 
 /* ---- numbers of the text's own ---- */
 
@@ -107,22 +108,77 @@ static int is_start(const struct line *line) {
     }
 }
 
+/* ---- numbers of the messages that stand for collective calls, and of those that `small.c` numbers: see docs/COLLECTIVES.md ---- */
+
+#define FIRST_MEETING 128  /* the communicator of those who meet first, where the program's own leave it free */
+#define MOST_MET 67108863
+
 static int *tag_numbers, tag_numbers_for;
 
-/* Of a collective: one message has this tag, or some between other pairs of ranks. */
+/* The program's own communicators have lower numbers: `world` 0, and the others from 1 on. */
+static int number_of_meeting(const struct text *text, const struct group *group) {
+    return group->number + (text->comms.count < FIRST_MEETING ? FIRST_MEETING : text->comms.count + 1);
+}
+
+/* Above those of all who meet. */
+static int number_of_messages(const struct text *text) {
+    return text->meeting_count + (text->comms.count < FIRST_MEETING ? FIRST_MEETING : text->comms.count + 1);
+}
+
+static void meet(struct text *text, struct instance *instance) {
+    struct group *group = instance->group;
+    if (instance->text == text->serial) return;
+    if (group->text != text->serial) {
+        if (!(text->meeting_count & (text->meeting_count - 1)))
+            text->meetings = room(text->meetings, sizeof *text->meetings * (size_t)(text->meeting_count ? text->meeting_count * 2 : 1));
+        text->meetings[text->meeting_count] = group;
+        group->text = text->serial, group->number = text->meeting_count++, group->met = 0;
+    }
+    if (group->met > MOST_MET) fail(3, "more than 67,108,864 collective calls on communicator %s in a text", group->name);
+    instance->text = text->serial, instance->place = group->met++;
+}
+
+static int has_envelope(const struct line *line) { return line->word != W_WAIT && line->word != W_MRECV && line->word != W_IMRECV; }
+
+/* Numbers communicators, and those who meet, in the order in which they come. */
+static void number_communicators(struct text *text, int phase) {
+    const char *world = same("world");
+    for (int r = 0; r < rank_count; r++)
+        for (int i = 0; i < lines[r].count; i++) {
+            const struct line *line = lines[r].at + i;
+            if (!has_envelope(line) || !in_phase(line, phase)) continue;
+            if (line->call->instance)
+                meet(text, line->call->instance);
+            else if (line->comm && line->comm != world)
+                number_in(&text->comms, (size_t)line->comm);
+        }
+}
+
+static void put_collective_tag(FILE *file, const struct text *text, const struct line *line) {
+    const struct instance *instance = line->call->instance;
+    put_any(file, 32 * instance->place + 2 * instance->kind_number + line->tag % 2);
+    put_word(file, " comm");
+    put_any(file, number_of_meeting(text, instance->group));
+}
+
+/* One message alone has this number, or some between other pairs of ranks. */
 static void put_own_tag(FILE *file, struct text *text, const struct line *line) {
-    if (line->tag >= tag_numbers_for) fail(70, "a collective has no number");
-    if (tag_numbers[line->tag] < 0) tag_numbers[line->tag] = text->collective_count++;
+    if (line->tag >= tag_numbers_for) fail(70, "a message has no number");
+    if (tag_numbers[line->tag] < 0) tag_numbers[line->tag] = text->message_count++;
     int number = tag_numbers[line->tag];
     put_any(file, number % (MOST_TAG + 1));
     put_word(file, " comm");
-    put_any(file, 255 - number / (MOST_TAG + 1));
+    put_any(file, number_of_messages(text) + number / (MOST_TAG + 1));
 }
 
 static void put_envelope(FILE *file, struct text *text, const struct line *line) {
     static const char *world;
     if (!world) world = same("world");
     put_any(file, line->peer);
+    if (line->call->instance) {
+        put_collective_tag(file, text, line);
+        return;
+    }
     if (!line->comm) {
         put_own_tag(file, text, line);
         return;
@@ -151,8 +207,6 @@ static void put_line(FILE *file, struct text *text, const struct line *line, int
         put_envelope(file, text, line);
     putc_unlocked('\n', file);
 }
-
-static int has_envelope(const struct line *line) { return line->word != W_WAIT && line->word != W_MRECV && line->word != W_IMRECV; }
 
 static void put_map_line(FILE *map, const struct text *text, int rank, const struct line *line) {
     const struct call *call = line->call;
@@ -284,7 +338,7 @@ static void note_choices(const struct text *text) {
 void free_text(struct text *text) {
     free(text->bytes), free(text->map);
     free(text->comms.keys), free(text->comms.places), free(text->tags.keys), free(text->tags.places);
-    free(text->used_tags), free(text->other_tags);
+    free(text->used_tags), free(text->other_tags), free(text->meetings);
 }
 
 /* The lines of a rank; requests and handles are numbered in the order in which they come. */
@@ -318,14 +372,19 @@ static void put_map_head(FILE *map, const char *name, int phase) {
     put_files(map);
 }
 
-/* `comm NAME: ranks 0..3 7`, in the order of the communicator, and the name that the program gave. */
-static void put_group(FILE *map, const struct group *group) {
+/* ` ranks 0..3 7`, in the order of the communicator. */
+static void put_members(FILE *map, const struct group *group) {
     const int *m = group->members;
-    fprintf(map, "comm %s: ranks", group->name);
+    fprintf(map, " ranks");
     for (int i = 0, end; i < group->size; i = end) {
         for (end = i + 1; end < group->size && m[end] == m[end - 1] + 1;) end++;
         fprintf(map, end > i + 2 ? " %d..%d" : end > i + 1 ? " %d %d" : " %d", m[i], m[end - 1]);
     }
+}
+
+static void put_group(FILE *map, const struct group *group) {
+    fprintf(map, "comm %s:", group->name);
+    put_members(map, group);
     if (group->given) fprintf(map, ", named %s", group->given);
     fprintf(map, "\n");
 }
@@ -336,33 +395,46 @@ static void put_map_tail(FILE *map, const struct text *text) {
         groups[g]->told = 0;
     }
     for (int i = 0; i < text->comms.count; i++) fprintf(map, "comm %d: %s\n", i + 1, (const char *)text->comms.keys[i]);
+    for (int i = 0; i < text->meeting_count; i++) {
+        fprintf(map, "comm %d: collectives of %s,", number_of_meeting(text, text->meetings[i]), text->meetings[i]->name);
+        put_members(map, text->meetings[i]);
+        fprintf(map, "\n");
+    }
     for (int i = 0; i < text->tags.count; i++) fprintf(map, "tag %d: %zu in the program\n", text->other_tags[i], text->tags.keys[i]);
 }
 
-/* The tags of collectives are counted anew in each text. */
+/* Messages are numbered anew in each text. */
 static void forget_tags(int phase) {
     for (int r = 0; r < rank_count; r++)
         for (int i = 0; i < lines[r].count; i++) {
             const struct line *line = lines[r].at + i;
-            if (!line->comm && has_envelope(line) && in_phase(line, phase)) tag_numbers[line->tag] = -1;
+            if (!line->comm && !line->call->instance && has_envelope(line) && in_phase(line, phase)) tag_numbers[line->tag] = -1;
         }
 }
 
+static void note_numbers(const struct text *text) {
+    if (text->comms.count >= FIRST_MEETING)
+        note("the program's messages have %d communicators besides world, so the numbers of those of its collectives begin at %d, and not at %d",
+             text->comms.count, text->comms.count + 1, FIRST_MEETING);
+}
+
 struct text make_text(int phase, int plain, const char *name) {
-    struct text text = {.plain = plain};
-    if (tag_numbers_for < instance_count + message_count + 1) {
-        tag_numbers_for = instance_count + message_count + 1;
+    static int made;
+    struct text text = {.plain = plain, .serial = ++made};
+    if (tag_numbers_for < message_count + 1) {
+        tag_numbers_for = message_count + 1;
         tag_numbers = room(tag_numbers, sizeof(int) * (size_t)tag_numbers_for);
         memset(tag_numbers, 255, sizeof(int) * (size_t)tag_numbers_for);
     }
     FILE *file = open_memstream(&text.bytes, &text.size), *map = open_memstream(&text.map, &text.map_size);
     if (!file || !map) fail(70, "out of memory");
+    number_communicators(&text, phase);
     if (plain) find_tags(&text, phase);
     fprintf(file, "ranks %d\npolicy %s\n", rank_count, options.policy);
     text.lines = 2;
     if (plain) {
         count_pairs(&text, phase);
-        if (phase < 0) note_choices(&text);
+        if (phase < 0) note_choices(&text), note_numbers(&text);
         put_map_head(map, name, phase);
     }
     for (int r = 0; r < rank_count; r++) put_rank(file, map, &text, r, phase);
@@ -370,7 +442,6 @@ struct text make_text(int phase, int plain, const char *name) {
     if (plain) put_map_tail(map, &text);
     int failed = ferror(file) || ferror(map);
     if (fclose(file) || fclose(map) || failed) fail(70, "out of memory");
-    if (plain && text.comms.count > 254 - text.collective_count / (MOST_TAG + 1)) fail(3, "more than 254 communicators in a text");
     return text;
 }
 
@@ -403,10 +474,16 @@ static void write_map(const char *name, const struct text *text) {
     free(bytes);
 }
 
+static int highest_communicator(const struct text *text) {
+    if (text->message_count) return number_of_messages(text) + (text->message_count - 1) / (MOST_TAG + 1);
+    return text->meeting_count ? number_of_messages(text) - 1 : text->comms.count;
+}
+
 static const char *limits_of(const struct text *text) {
     if (text->calls > 1024) return "beyond the limit of 1,024 calls";
     if (text->size > 1048576) return "beyond the limit of 1,048,576 bytes";
     if (text->events > 1024) return "beyond the limit of 1,024 events of a proof";
+    if (highest_communicator(text) > MOST_COMMUNICATOR) return "beyond the limit of 255 communicators of a proof";
     if (text->pairs > 8192) return "beyond the limit of 8,192 pairs of a proof";
     return "within the limits";
 }
