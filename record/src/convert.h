@@ -209,6 +209,9 @@ void settle_starts(int rank);
 void join_probes(int rank);
 void leave_out_unmatched(void);
 void warn_of_paths(int rank);
+enum path { P_NO_OTHER, P_ONE_OF_SEVERAL, P_THIS_RUN };  /* what the recording shows of other paths; each outweighs those before it */
+void found_path(enum path path);
+void put_path(FILE *map);
 
 /* forms.c */
 void gather_instances(void);  /* ends the program where calls don't fit each other */

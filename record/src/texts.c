@@ -329,10 +329,11 @@ static void count_pairs(struct text *text, int phase) {
 }
 
 static void note_choices(const struct text *text) {
-    if (text->asked)
-        note("one path: %ld receives or probes may find messages of several ranks, and the program asks which one it was (first rank %d in %s): where "
-             "what it does next depends on that, this text is not the program", text->asked, text->asked_rank,
-             place_of(ranks + text->asked_rank, text->first_asked));
+    if (!text->asked) return;
+    found_path(P_ONE_OF_SEVERAL);
+    note("one path: %ld receives or probes may find messages of several ranks, and the program asks which one it was (first rank %d in %s): where "
+         "what it does next depends on that, this text is not the program", text->asked, text->asked_rank,
+         place_of(ranks + text->asked_rank, text->first_asked));
 }
 
 void free_text(struct text *text) {
@@ -368,6 +369,7 @@ static void put_map_head(FILE *map, const char *name, int phase) {
     fprintf(map, "text %s.mpi: %d ranks, recorded under %s, collectives with %s\n", name, rank_count, library,
             options.most ? "the most waiting that MPI allows: each is a barrier" : "the least waiting that MPI guarantees");
     put_end(map, phase);
+    put_path(map);
     for (int i = 0; i < note_count; i++) fprintf(map, "note: %s\n", notes[i]);
     put_files(map);
 }
