@@ -30,6 +30,7 @@ static int inside_marks = 1;
 static long most_calls;  /* 0: no limit */
 static long calls;
 static long shaken;      /* 0: calls are not delayed */
+static char *first_page; /* of the recording, or NULL */
 static char *inside;     /* in the recording: whether the rank is inside of a call */
 static long thread_seen;
 static int threads_told;
@@ -79,11 +80,17 @@ void put(const char *format, ...) {
     va_end(list);
 }
 
-/* No text is to be made of a part, so what was written is taken away. */
+/* No text is to be made of a part, so what was written is taken away; where its folder can't be written its first byte is changed, in
+   the page that is mapped, since the program would be killed if the file were cut there. */
 static void give_up(void) {
     fprintf(stderr, "record: %s can't be written, and is taken away\n", path);
+    if (unlink(path)) {
+        if (first_page)
+            *first_page = '?';
+        else if (ftruncate(file, 0))
+            fprintf(stderr, "record: %s is a part\n", path);
+    }
     close(file);
-    unlink(path);
     file = -1;
 }
 
@@ -269,6 +276,7 @@ static void first_lines(int rank, int size) {
     write_line();
     char *page = file < 0 || at >= 4096 ? MAP_FAILED : mmap(NULL, 4096, PROT_READ | PROT_WRITE, MAP_SHARED, file, 0);
     if (page == MAP_FAILED) return;
+    first_page = page;
     inside = page + at;
     *inside = 'b';
 }
@@ -280,10 +288,18 @@ static const char *directory(void) {
     return name;
 }
 
-void leave_word(const char *name) {
+int leave_word(const char *name) {
     snprintf(path, sizeof path, "%s/%s", directory(), name);
     int word = open(path, O_WRONLY | O_CREAT | O_CLOEXEC, 0666);
     if (word >= 0) close(word);
+    return word >= 0;
+}
+
+/* What the recorder doesn't write makes a recording a damaged one. */
+static void spoil(void) {
+    int other = open(path, O_WRONLY | O_APPEND | O_CLOEXEC);
+    if (other < 0 || write(other, "several\n", 8) != 8) fprintf(stderr, "record: %s is of another MPI program\n", path);
+    if (other >= 0) close(other);
 }
 
 /* A file that is there already is that of another program of this run, or of another run. */
@@ -293,7 +309,9 @@ static void open_recording(int rank) {
     if (file >= 0) return;
     int there = errno == EEXIST;
     fprintf(stderr, "record: %s %s\n", path, there ? "is there already: a second MPI program isn't recorded" : "can't be written");
-    if (there) leave_word("several");
+    if (!there || leave_word("several")) return;
+    snprintf(path, sizeof path, "%s/rank.%d", directory(), rank);
+    spoil();
 }
 
 static int option(const char *name) {
