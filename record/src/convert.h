@@ -141,9 +141,13 @@ struct numbers {
     size_t room;
 };
 
+struct bytes {
+    char *at;
+    size_t count, room;
+};
+
 struct text {
-    char *bytes, *map;
-    size_t size, map_size;
+    struct bytes bytes, map;
     long calls, events, lines, sends, wild, choices, pairs;
     int plain;               /* tags as they are, and a map */
     int serial;              /* among all texts that were made, from 1 on */
