@@ -122,14 +122,7 @@ static int is_start(const struct line *line) {
 static int *tag_numbers, tag_numbers_for;
 
 /* The program's own communicators have lower numbers: `world` 0, and the others from 1 on. */
-static int number_of_meeting(const struct text *text, const struct group *group) {
-    return group->number + (text->comms.count < FIRST_MEETING ? FIRST_MEETING : text->comms.count + 1);
-}
-
-/* Above those of all who meet. */
-static int number_of_messages(const struct text *text) {
-    return text->meeting_count + (text->comms.count < FIRST_MEETING ? FIRST_MEETING : text->comms.count + 1);
-}
+static int first_meeting(const struct text *text) { return text->comms.count < FIRST_MEETING ? FIRST_MEETING : text->comms.count + 1; }
 
 static void meet(struct text *text, struct instance *instance) {
     struct group *group = instance->group;
@@ -164,17 +157,17 @@ static void put_collective_tag(struct bytes *bytes, const struct text *text, con
     const struct instance *instance = line->call->instance;
     put_any(bytes, 32 * instance->place + 2 * instance->kind_number + line->tag % 2);
     put_word(bytes, " comm");
-    put_any(bytes, number_of_meeting(text, instance->group));
+    put_any(bytes, first_meeting(text) + instance->group->number);
 }
 
-/* One message alone has this number, or some between other pairs of ranks. */
+/* In a communicator above those of all who meet. One message alone has this number, or some between other pairs of ranks. */
 static void put_own_tag(struct bytes *bytes, struct text *text, const struct line *line) {
     if (line->tag >= tag_numbers_for) fail(70, "a message has no number");
     if (tag_numbers[line->tag] < 0) tag_numbers[line->tag] = text->message_count++;
     int number = tag_numbers[line->tag];
     put_any(bytes, number % (MOST_TAG + 1));
     put_word(bytes, " comm");
-    put_any(bytes, number_of_messages(text) + number / (MOST_TAG + 1));
+    put_any(bytes, first_meeting(text) + text->meeting_count + number / (MOST_TAG + 1));
 }
 
 static void put_envelope(struct bytes *bytes, struct text *text, const struct line *line) {
@@ -414,7 +407,7 @@ static void put_map_tail(FILE *map, const struct text *text) {
     }
     for (int i = 0; i < text->comms.count; i++) fprintf(map, "comm %d: %s\n", i + 1, (const char *)text->comms.keys[i]);
     for (int i = 0; i < text->meeting_count; i++) {
-        fprintf(map, "comm %d: collectives of %s,", number_of_meeting(text, text->meetings[i]), text->meetings[i]->name);
+        fprintf(map, "comm %d: collectives of %s,", first_meeting(text) + i, text->meetings[i]->name);
         put_members(map, text->meetings[i]);
         fprintf(map, "\n");
     }
@@ -433,7 +426,7 @@ static void forget_tags(int phase) {
 static void note_numbers(const struct text *text) {
     if (text->comms.count >= FIRST_MEETING)
         note("the program's messages have %d communicators besides world, so the numbers of those of its collectives begin at %d, and not at %d",
-             text->comms.count, text->comms.count + 1, FIRST_MEETING);
+             text->comms.count, first_meeting(text), FIRST_MEETING);
 }
 
 /* What is told before and behind the lines of a map. */
@@ -502,8 +495,9 @@ static void write_map(const char *name, const struct text *text) {
 }
 
 static int highest_communicator(const struct text *text) {
-    if (text->message_count) return number_of_messages(text) + (text->message_count - 1) / (MOST_TAG + 1);
-    return text->meeting_count ? number_of_messages(text) - 1 : text->comms.count;
+    int next = first_meeting(text) + text->meeting_count;
+    if (text->message_count) return next + (text->message_count - 1) / (MOST_TAG + 1);
+    return text->meeting_count ? next - 1 : text->comms.count;
 }
 
 static const char *limits_of(const struct text *text) {
