@@ -14,7 +14,7 @@ void *real_call(const char *name);
 void begin_call(const char *function, const char *operation);
 void end_call(void);
 
-void leave_word(const char *name);  /* a file that tells the converter why there is no recording */
+int leave_word(const char *name);  /* a file that tells the converter why there is no recording; 0: it could not be made */
 int is_recorded(void);              /* whether MPI_Init was seen */
 
 #endif

@@ -59,9 +59,11 @@ struct group {
     const char *name, *given;  /* by the program, or NULL */
     int size, lowest, highest;
     int *members, *places;     /* the number in it of each rank from the lowest to the highest, or -1 */
+    int rises;                 /* its members rise */
     struct instance **instances;
     int instance_count;
     int told;                /* in the map that is made: it has a line there */
+    int text, number, met;   /* the last text in which its collectives have lines, its number there, and how many of them there are */
 };
 
 /* A rank's communicator. */
@@ -90,8 +92,9 @@ struct instance {
     const char *kind, *function;  /* the function as the first member called it */
     int nonblocking, root, arrived;
     struct call **calls;     /* of each member, or NULL */
-    int usual, teller, form, *takers, *takers_of;  /* see forms.c */
-    int tag;                 /* all of its messages have one of their own */
+    int usual, teller, form, kind_number, *takers, *takers_of;  /* see forms.c */
+    int tag;                 /* among all instances: its lines have twice that, and 1 more in their second round */
+    int text, place;         /* the last text in which it has lines, and how many of the communicator's stand before it there */
     int whole;               /* all ranks of the program belong to it */
     int passed;              /* of how many members the call stands before the cut that is looked at */
     int cut;                 /* the phases are cut here */
@@ -113,7 +116,7 @@ struct line {
     enum word word;
     int name, of;
     int peer, tag, peer2, tag2;
-    const char *comm;        /* its name; NULL: the tag is one that all ranks' texts have for one message */
+    const char *comm;        /* its name; NULL: a collective's, or one whose tag all ranks have for one message alone */
     int *list, count;
     struct call *call;
     const char *remark;
@@ -138,13 +141,19 @@ struct numbers {
     size_t room;
 };
 
+struct bytes {
+    char *at;
+    size_t count, room;
+};
+
 struct text {
-    char *bytes, *map;
-    size_t size, map_size;
+    struct bytes bytes, map;
     long calls, events, lines, sends, wild, choices, pairs;
     int plain;               /* tags as they are, and a map */
+    int serial;              /* among all texts that were made, from 1 on */
     struct numbers comms, tags;
-    int collective_count;
+    struct group **meetings; /* whose collectives have lines, in the order of their numbers */
+    int meeting_count, message_count;
     unsigned char *used_tags;  /* of those that need no other number */
     int *other_tags, other_count;  /* the number of each tag that needs one */
     int free_tag;            /* no number from this on is free */
@@ -204,6 +213,9 @@ void settle_starts(int rank);
 void join_probes(int rank);
 void leave_out_unmatched(void);
 void warn_of_paths(int rank);
+enum path { P_NO_OTHER, P_ONE_OF_SEVERAL, P_THIS_RUN };  /* what the recording shows of other paths; each outweighs those before it */
+void found_path(enum path path);
+void put_path(FILE *map);
 
 /* forms.c */
 void gather_instances(void);  /* ends the program where calls don't fit each other */

@@ -6,8 +6,7 @@
 #include <string.h>
 
 struct kind {
-    char *bytes;
-    size_t size;
+    struct bytes bytes;
     int first, times;
 };
 static struct kind *kinds;
@@ -43,11 +42,12 @@ static void take_phase(int phase) {
 /* Takes in a phase: the kind that it is of, or a new one. */
 static void add_phase(int phase, struct text *text) {
     int k = 0;
-    while (k < kind_count && (kinds[k].size != text->size || memcmp(kinds[k].bytes, text->bytes, text->size))) k++;
+    const struct bytes *bytes = &text->bytes;
+    while (k < kind_count && (kinds[k].bytes.count != bytes->count || memcmp(kinds[k].bytes.at, bytes->at, bytes->count))) k++;
     if (k == kind_count) {
         kinds = room(kinds, sizeof *kinds * (size_t)(kind_count + 1));
-        kinds[kind_count++] = (struct kind){text->bytes, text->size, phase, 0};
-        text->bytes = NULL;
+        kinds[kind_count++] = (struct kind){*bytes, phase, 0};
+        text->bytes.at = NULL;
     }
     kinds[k].times++;
 }

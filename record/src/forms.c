@@ -87,16 +87,22 @@ enum form { F_UNKNOWN, F_NONE, F_ALL, F_FROM_ROOT, F_TO_ROOT, F_CHAIN, F_PAIRS }
 /* Of collectives without a root whose ranks don't have something from each: by whom that is told. */
 enum teller { T_TAKER, T_GIVER, T_SOURCES };
 
+/* The numbers of kinds are those of docs/COLLECTIVES.md, by which messages of different kinds have different tags; others count as
+   barriers. */
+
 static const struct {
     const char *name;
+    int number;
     enum form form;
     enum teller teller;
-} kinds[] = {{"Bcast", F_FROM_ROOT, T_TAKER},       {"Scatter", F_FROM_ROOT, T_TAKER},   {"Scatterv", F_FROM_ROOT, T_TAKER},
-             {"Reduce", F_TO_ROOT, T_TAKER},        {"Gather", F_TO_ROOT, T_TAKER},      {"Gatherv", F_TO_ROOT, T_TAKER},
-             {"Scan", F_CHAIN, T_TAKER},            {"Exscan", F_CHAIN, T_TAKER},        {"Allgather", F_PAIRS, T_GIVER},
-             {"Allgatherv", F_PAIRS, T_GIVER},      {"Alltoallv", F_PAIRS, T_SOURCES},   {"Alltoallw", F_PAIRS, T_SOURCES},
-             {"Neighbor_allgather", F_PAIRS, T_SOURCES}, {"Neighbor_allgatherv", F_PAIRS, T_SOURCES}, {"Neighbor_alltoall", F_PAIRS, T_SOURCES},
-             {"Neighbor_alltoallv", F_PAIRS, T_SOURCES}, {"Neighbor_alltoallw", F_PAIRS, T_SOURCES}};
+} kinds[] = {{"Barrier", 0, F_PAIRS, T_TAKER},     {"Bcast", 1, F_FROM_ROOT, T_TAKER},    {"Reduce", 2, F_TO_ROOT, T_TAKER},
+             {"Allreduce", 3, F_PAIRS, T_TAKER},   {"Gather", 4, F_TO_ROOT, T_TAKER},     {"Gatherv", 4, F_TO_ROOT, T_TAKER},
+             {"Scatter", 5, F_FROM_ROOT, T_TAKER}, {"Scatterv", 5, F_FROM_ROOT, T_TAKER}, {"Allgather", 6, F_PAIRS, T_GIVER},
+             {"Allgatherv", 6, F_PAIRS, T_GIVER},  {"Alltoall", 7, F_PAIRS, T_TAKER},     {"Alltoallv", 7, F_PAIRS, T_SOURCES},
+             {"Alltoallw", 7, F_PAIRS, T_SOURCES}, {"Scan", 8, F_CHAIN, T_TAKER},         {"Exscan", 8, F_CHAIN, T_TAKER},
+             {"Neighbor_allgather", 0, F_PAIRS, T_SOURCES}, {"Neighbor_allgatherv", 0, F_PAIRS, T_SOURCES},
+             {"Neighbor_alltoall", 0, F_PAIRS, T_SOURCES}, {"Neighbor_alltoallv", 0, F_PAIRS, T_SOURCES},
+             {"Neighbor_alltoallw", 0, F_PAIRS, T_SOURCES}};
 static const size_t kind_count = sizeof kinds / sizeof *kinds;
 
 static void find_kind(struct instance *instance) {
@@ -104,6 +110,7 @@ static void find_kind(struct instance *instance) {
     while (k < kind_count && strcmp(kinds[k].name, instance->kind)) k++;
     instance->usual = k < kind_count ? kinds[k].form : F_PAIRS;
     instance->teller = k < kind_count ? kinds[k].teller : T_TAKER;
+    instance->kind_number = k < kind_count ? kinds[k].number : 0;
 }
 
 /* A member that never came is taken as one that has something to give. */
@@ -216,67 +223,64 @@ static int others(const struct instance *instance, int me, int sources, int *fou
     }
 }
 
-static void message(int rank, enum word word, struct call *call, int peer) {
+static int compare(const void *one, const void *other) { return *(const int *)one - *(const int *)other; }
+
+static void message(int rank, enum word word, struct call *call, int peer, int round) {
     struct line *line = add_line(rank, word, call);
     line->peer = peer;
-    line->tag = call->instance->tag;
+    line->tag = 2 * call->instance->tag + round;
 }
 
 /* A rank tells those that take something from it, and waits for those from whom it takes something. */
-static void exchange(int rank, struct call *call, int me, enum word send) {
+static void exchange(int rank, struct call *call, int me) {
     int *found = room(NULL, sizeof(int) * (size_t)call->instance->group->size);
-    for (int k = 0, count = others(call->instance, me, 0, found); k < count; k++) message(rank, send, call, found[k]);
-    for (int k = 0, count = others(call->instance, me, 1, found); k < count; k++) message(rank, W_RECV, call, found[k]);
+    for (int k = 0, count = others(call->instance, me, 0, found); k < count; k++) message(rank, W_BSEND, call, found[k], 0);
+    for (int k = 0, count = others(call->instance, me, 1, found); k < count; k++) message(rank, W_RECV, call, found[k], 0);
     free(found);
 }
 
 static void start_exchange(int rank, struct call *call, int me) {
     int *found = room(NULL, sizeof(int) * (size_t)call->instance->group->size);
-    for (int k = 0, count = others(call->instance, me, 0, found); k < count; k++) message(rank, W_BSEND, call, found[k]);
+    for (int k = 0, count = others(call->instance, me, 0, found); k < count; k++) message(rank, W_BSEND, call, found[k], 0);
     call->part_count = others(call->instance, me, 1, found);
     call->parts = found;
     for (int k = 0; k < call->part_count; k++) {
-        message(rank, W_IRECV, call, found[k]);
+        message(rank, W_IRECV, call, found[k], 0);
         lines[rank].at[lines[rank].count - 1].name = found[k] = fresh_part(rank);
     }
 }
 
-/* With four members or more, everyone knows that all have come after 2n - 4 meetings, and not with fewer. A synchronous send and its
-   receive are a meeting: each side knows then that the other one has come, and what that one knew. */
-static void all_form(int rank, struct call *call, int me) {
+/* What the root does in each of two rounds, and what the others do with it. */
+static const enum word rounds[][2][2] = {[F_ALL] = {{W_RECV, W_BSEND}, {W_BSEND, W_RECV}},
+                                         [F_FROM_ROOT] = {{W_SEND, W_BSEND}, {W_RECV, W_RECV}},
+                                         [F_TO_ROOT] = {{W_RECV, W_RECV}, {W_BSEND, W_SEND}}};
+
+/* Those who have no bytes take no part in what has a root. */
+static void root_form(int rank, struct call *call, int me, enum form form) {
     const struct instance *instance = call->instance;
-    const int *m = instance->group->members, n = instance->group->size;
-    if (n == 2) {
-        message(rank, me ? W_RECV : W_SSEND, call, m[!me]);
-        return;
-    }
-    int hubs = n < 4 ? 2 : 4;
-    if (me >= hubs) {
-        message(rank, W_BSEND, call, m[0]);
-        message(rank, W_RECV, call, m[0]);
-        return;
-    }
-    if (me == 0) {
-        for (int i = hubs; i < n; i++) message(rank, W_RECV, call, m[i]);
-        message(rank, W_SSEND, call, m[1]);
-        if (hubs == 4) message(rank, W_SSEND, call, m[2]);
-        for (int i = hubs; i < n; i++) message(rank, W_BSEND, call, m[i]);
-    } else if (me == 1) {
-        message(rank, W_RECV, call, m[0]);
-        if (hubs == 4) message(rank, W_SSEND, call, m[3]);
-    } else if (me == 2) {
-        message(rank, W_SSEND, call, m[3]);
-        message(rank, W_RECV, call, m[0]);
-    } else {
-        message(rank, W_RECV, call, m[2]);
-        message(rank, W_RECV, call, m[1]);
-    }
+    const struct group *group = instance->group;
+    int root = instance->root < 0 ? group->lowest : instance->root, size = group->size, count = 1;
+    int *peers = room(NULL, sizeof(int) * (size_t)size);
+    if (rank != root)
+        peers[0] = root, count = form == F_ALL || bytes_at(instance, me) > 0;
+    else if (form == F_ALL)
+        count = all_but(instance, 0, size, me, peers);
+    else
+        count = with_bytes(instance, 0, size, me, peers);
+    if (!group->rises) qsort(peers, (size_t)count, sizeof *peers, compare);
+    for (int round = 0; round < 2; round++)
+        for (int k = 0; k < count; k++) message(rank, rounds[form][rank != root][round], call, peers[k], round);
+    free(peers);
 }
 
 static void chain_form(int rank, struct call *call, int me) {
     const struct group *group = call->instance->group;
-    if (me) message(rank, W_RECV, call, group->members[me - 1]);
-    if (me + 1 < group->size) message(rank, W_SEND, call, group->members[me + 1]);
+    if (me) message(rank, W_RECV, call, group->members[me - 1], 0);
+    if (me + 1 < group->size) {
+        message(rank, W_BSEND, call, group->members[me + 1], 0);
+        message(rank, W_SEND, call, group->members[me + 1], 1);
+    }
+    if (me) message(rank, W_RECV, call, group->members[me - 1], 1);
 }
 
 void add_form(int rank, struct call *call) {
@@ -288,11 +292,11 @@ void add_form(int rank, struct call *call) {
         return;
     }
     switch (form) {
-    case F_ALL: all_form(rank, call, me); break;
+    case F_ALL:
     case F_FROM_ROOT:
-    case F_TO_ROOT: exchange(rank, call, me, W_SEND); break;
+    case F_TO_ROOT: root_form(rank, call, me, form); break;
     case F_CHAIN: chain_form(rank, call, me); break;
-    case F_PAIRS: exchange(rank, call, me, W_BSEND); break;
+    case F_PAIRS: exchange(rank, call, me); break;
     default: break;
     }
 }

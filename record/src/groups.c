@@ -47,7 +47,9 @@ static struct group *new_group(const char *name, int size, int *members) {
     group->size = size;
     group->members = members;
     group->lowest = group->highest = members[0];
+    group->rises = 1;
     for (int i = 0; i < size; i++) {
+        group->rises &= !i || members[i - 1] < members[i];
         if (members[i] < group->lowest) group->lowest = members[i];
         if (members[i] > group->highest) group->highest = members[i];
     }

@@ -105,7 +105,7 @@ LEFT(File_write_all_begin_c) LEFT(File_write_at_all_begin_c) LEFT(File_write_ord
 LEFT(File_iread_all_c) LEFT(File_iread_at_all_c) LEFT(File_iread_shared_c) LEFT(File_iwrite_c) LEFT(File_iwrite_at_c)
 LEFT(File_iwrite_all_c) LEFT(File_iwrite_at_all_c) LEFT(File_iwrite_shared_c)
 
-/* A program that begins with a session has no MPI_COMM_WORLD, by which all else is named. */
+/* A program that begins with an MPI session (MPI 4.1, 11.3) has no MPI_COMM_WORLD, by which all else is named. */
 EXPORTED int MPI_Session_init(word a, word b, word c);
 EXPORTED int MPI_Session_init(word a, word b, word c) {
     static int (*next)(word, word, word);

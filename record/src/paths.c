@@ -4,6 +4,16 @@
 #include <stdlib.h>
 #include <string.h>
 
+static enum path path;
+
+void found_path(enum path other) {
+    if (other > path) path = other;
+}
+
+void put_path(FILE *map) {
+    if (path) fprintf(map, "text path: %s\n", path == P_THIS_RUN ? "this run" : "one of several");
+}
+
 /* What comes of one kind of use. */
 struct use {
     int times, of, several, first_found;
@@ -54,6 +64,7 @@ static void look_behind_wait(const struct rank *rank, int i) {
 
 static void warn(int r, const struct use *use, const char *does) {
     if (!use->several || use->times < 2 || use->times * 2 <= use->of) return;
+    found_path(P_ONE_OF_SEVERAL);
     note("WARNING: %d of %d times rank %d %s whom it found (first in %s): the program seems not to be single-path; --twice may tell", use->times, use->of, r,
          does, place_of(ranks + r, use->first));
 }

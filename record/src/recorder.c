@@ -4,7 +4,6 @@
 
 #include <dlfcn.h>
 #include <errno.h>
-#include <execinfo.h>
 #include <fcntl.h>
 #include <pthread.h>
 #include <stdarg.h>
@@ -15,6 +14,7 @@
 #include <sys/stat.h>
 #include <sys/syscall.h>
 #include <unistd.h>
+#include <unwind.h>
 
 #define MOST_FRAMES 24
 #define KEPT_FRAMES 6
@@ -30,6 +30,7 @@ static int inside_marks = 1;
 static long most_calls;  /* 0: no limit */
 static long calls;
 static long shaken;      /* 0: calls are not delayed */
+static char *first_page; /* of the recording, or NULL */
 static char *inside;     /* in the recording: whether the rank is inside of a call */
 static long thread_seen;
 static int threads_told;
@@ -57,18 +58,39 @@ void *real_call(const char *name) {
 
 /* ---- lines ---- */
 
+static void put_bytes(const char *bytes, size_t count) {
+    if (line_length + count >= line_room) line = room(line, line_room = (line_length + count) * 2 + 4096);
+    memcpy(line + line_length, bytes, count);
+    line_length += count;
+}
+
+static void put_number(long number) {
+    char digits[24];
+    size_t at = sizeof digits;
+    unsigned long left = number < 0 ? -(unsigned long)number : (unsigned long)number;
+    do digits[--at] = (char)('0' + left % 10);
+    while (left /= 10);
+    if (number < 0) digits[--at] = '-';
+    put_bytes(digits + at, sizeof digits - at);
+}
+
+/* As printf does with %s, %d, %ld and %c, of which alone the formats are, since each call of the program comes through here. */
 static void put_list(const char *format, va_list list) {
-    for (;;) {
-        va_list copy;
-        va_copy(copy, list);
-        int need = vsnprintf(line + line_length, line_room - line_length, format, copy);
-        va_end(copy);
-        if (need >= 0 && (size_t)need < line_room - line_length) {
-            line_length += (size_t)need;
-            return;
+    for (const char *c = format; *c; c++) {
+        size_t plain = strcspn(c, "%");
+        put_bytes(c, plain);
+        c += plain;
+        if (!*c) return;
+        switch (*++c) {
+        case 's': {
+            const char *word = va_arg(list, const char *);
+            put_bytes(word, strlen(word));
+            break;
         }
-        line_room = line_room * 2 + 4096;
-        line = room(line, line_room);
+        case 'd': put_number(va_arg(list, int)); break;
+        case 'l': put_number(va_arg(list, long)), c++; break;
+        default: put_bytes((char[]){(char)va_arg(list, int)}, 1);
+        }
     }
 }
 
@@ -79,11 +101,17 @@ void put(const char *format, ...) {
     va_end(list);
 }
 
-/* No text is to be made of a part, so what was written is taken away. */
+/* No text is to be made of a part, so what was written is taken away; where its folder can't be written its first byte is changed, in
+   the page that is mapped, since the program would be killed if the file were cut there. */
 static void give_up(void) {
     fprintf(stderr, "record: %s can't be written, and is taken away\n", path);
+    if (unlink(path)) {
+        if (first_page)
+            *first_page = '?';
+        else if (ftruncate(file, 0))
+            fprintf(stderr, "record: %s is a part\n", path);
+    }
     close(file);
-    unlink(path);
     file = -1;
 }
 
@@ -142,6 +170,44 @@ void end_poll(void) {
     end_call();
 }
 
+/* The call sites that are told of a call, from the inside out. */
+struct stack {
+    int frames, kept, numbers[KEPT_FRAMES];
+};
+
+/* Where `main` returns to: nothing of the program stands behind it. NULL: it isn't known. */
+static void *end_of_main;
+
+static _Unwind_Reason_Code take_frame(struct _Unwind_Context *context, void *taken) {
+    struct stack *stack = taken;
+    void *address = (void *)_Unwind_GetIP(context);
+    if (address == end_of_main) return _URC_END_OF_STACK;
+    int number = site_number(address);
+    if (number) stack->numbers[stack->kept++] = number;
+    return ++stack->frames == MOST_FRAMES || stack->kept == KEPT_FRAMES ? _URC_END_OF_STACK : _URC_NO_REASON;
+}
+
+/* The last frames, the innermost first. */
+struct end_of_stack {
+    void *last[3];
+};
+
+static _Unwind_Reason_Code shift_frame(struct _Unwind_Context *context, void *taken) {
+    void **last = ((struct end_of_stack *)taken)->last, *address = (void *)_Unwind_GetIP(context);
+    if (address) last[0] = last[1], last[1] = last[2], last[2] = address;
+    return _URC_NO_REASON;
+}
+
+/* The C library begins a program by two calls of its own, behind the one in which the program's file begins. */
+static void find_end_of_main(void) {
+    struct end_of_stack end = {{NULL, NULL, NULL}};
+    Dl_info library, other, program;
+    _Unwind_Backtrace(shift_frame, &end);
+    if (!end.last[0] || !dladdr((void *)exit, &library) || !dladdr(end.last[0], &other) || other.dli_fbase != library.dli_fbase) return;
+    if (!dladdr(end.last[1], &other) || other.dli_fbase != library.dli_fbase || !dladdr(end.last[2], &program)) return;
+    if (program.dli_fbase != library.dli_fbase) end_of_main = end.last[0];
+}
+
 void end_call(void) {
     if (!inside_marks || (most_calls && calls > most_calls)) {
         line_length = 0;
@@ -155,15 +221,10 @@ void end_call(void) {
         return;
     }
     calls++;
-    void *frames[MOST_FRAMES];
-    int numbers[KEPT_FRAMES], kept = threads_told ? 0 : python_sites(numbers, KEPT_FRAMES);
-    int count = kept ? 0 : backtrace(frames, MOST_FRAMES);
-    for (int i = 0; i < count && kept < KEPT_FRAMES; i++) {
-        int number = site_number(frames[i]);
-        if (number) numbers[kept++] = number;
-    }
+    struct stack stack = {.kept = threads_told ? 0 : python_sites(stack.numbers, KEPT_FRAMES)};
+    if (!stack.kept) _Unwind_Backtrace(take_frame, &stack);
     put(" @");
-    for (int i = 0; i < kept; i++) put(" %d", numbers[i]);
+    for (int i = 0; i < stack.kept; i++) put(" %d", stack.numbers[i]);
     put("\n");
     write_line();
     lines_told++;
@@ -220,7 +281,8 @@ int enter(void) {
     if (depth++ > 0 || !begun || ended) return 0;
     if (inside) *inside = 'i';
     pthread_mutex_lock(&lock);
-    long thread = syscall(SYS_gettid);
+    static _Thread_local long thread;
+    if (!thread) thread = syscall(SYS_gettid);
     if (!thread_seen) thread_seen = thread;
     if (thread != thread_seen && !threads_told) {
         threads_told = 1;
@@ -269,6 +331,7 @@ static void first_lines(int rank, int size) {
     write_line();
     char *page = file < 0 || at >= 4096 ? MAP_FAILED : mmap(NULL, 4096, PROT_READ | PROT_WRITE, MAP_SHARED, file, 0);
     if (page == MAP_FAILED) return;
+    first_page = page;
     inside = page + at;
     *inside = 'b';
 }
@@ -280,10 +343,18 @@ static const char *directory(void) {
     return name;
 }
 
-void leave_word(const char *name) {
+int leave_word(const char *name) {
     snprintf(path, sizeof path, "%s/%s", directory(), name);
     int word = open(path, O_WRONLY | O_CREAT | O_CLOEXEC, 0666);
     if (word >= 0) close(word);
+    return word >= 0;
+}
+
+/* What the recorder doesn't write makes a recording a damaged one. */
+static void spoil(void) {
+    int other = open(path, O_WRONLY | O_APPEND | O_CLOEXEC);
+    if (other < 0 || write(other, "several\n", 8) != 8) fprintf(stderr, "record: %s is of another MPI program\n", path);
+    if (other >= 0) close(other);
 }
 
 /* A file that is there already is that of another program of this run, or of another run. */
@@ -293,7 +364,9 @@ static void open_recording(int rank) {
     if (file >= 0) return;
     int there = errno == EEXIST;
     fprintf(stderr, "record: %s %s\n", path, there ? "is there already: a second MPI program isn't recorded" : "can't be written");
-    if (there) leave_word("several");
+    if (!there || leave_word("several")) return;
+    snprintf(path, sizeof path, "%s/rank.%d", directory(), rank);
+    spoil();
 }
 
 static int option(const char *name) {
@@ -311,8 +384,7 @@ void start_recording(void) {
     most_calls = option("RECORD_CALLS");
     if (option("RECORD_SHAKE") > 0) shaken = option("RECORD_SHAKE") * 1000003L + rank + 1;
     first_lines(rank, size);
-    void *frame[1];
-    backtrace(frame, 1);
+    find_end_of_main();
     add_comm(MPI_COMM_WORLD, "world");
     add_comm(MPI_COMM_SELF, "self");
     by_marks = option("RECORD_MARKS");

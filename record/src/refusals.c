@@ -42,6 +42,8 @@ int tells_sends_alone(const struct rank *rank, const struct call *call) {
     return 1;
 }
 
+static int tests_taken;  /* tests of sends are left out, and it is not known that nothing depends on them */
+
 static void leave_out_tests(int r) {
     struct rank *rank = ranks + r;
     int count = 0;
@@ -53,6 +55,7 @@ static void leave_out_tests(int r) {
             if (!count++) first = call;
         }
     }
+    if (count && !options.free_tests) tests_taken = 1;
     if (count)
         note("rank %d: %d tests of sends are left out (first in %s), and no wait is written for sends that a test alone completed: right where what "
              "comes next doesn't depend on them", r, count, place_of(rank, first));
@@ -116,9 +119,17 @@ void look_for_refusals(void) {
     }
 }
 
+static void tell_what_is_taken(int softly, int left_out) {
+    if (softly) {
+        found_path(P_THIS_RUN);
+        note("THE TEXT IS ONE PATH THAT ONE RUN TOOK: a deadlock may be none of the program's, and `no deadlock` says nothing of other paths");
+    }
+    if (left_out) note("THE TEXT LACKS CALLS OF THE PROGRAM: a deadlock may be none of the program's, and `no deadlock` says nothing of what they wait for");
+}
+
 /* The exit status is 3 where something is refused that no option takes. */
 void tell_refusals(void) {
-    int hard = 0;
+    int hard = 0, softly = tests_taken, left_out = 0;
     for (int i = 0; i < refusal_count; i++) {
         const struct refusal *refusal = refusals + i;
         int taken = refusal->softly ? options.this_run : options.leave_out;
@@ -128,15 +139,13 @@ void tell_refusals(void) {
                  place_of(ranks + refusal->rank, refusal->call), refusal->what);
         if (taken)
             note("%s", text);
-        else {
+        else
             fprintf(stderr, "%s\n", text);
-            hard = 1;
-        }
+        hard |= !taken, softly |= refusal->softly, left_out |= !refusal->softly;
     }
     if (hard) {
         fprintf(stderr, "nothing was written: the program is not single-path, or uses calls that are not covered (--this-run, --leave-out)\n");
         exit(3);
     }
-    if (refusal_count)
-        note("THE TEXT IS ONE PATH THAT ONE RUN TOOK: a deadlock may be none of the program's, and `no deadlock` says nothing of other paths");
+    tell_what_is_taken(softly, left_out);
 }

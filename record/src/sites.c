@@ -2,7 +2,6 @@
 #define _GNU_SOURCE
 #include "recorder.h"
 
-#include <dlfcn.h>
 #include <link.h>
 #include <stdio.h>
 #include <stdlib.h>
@@ -44,30 +43,49 @@ static void grow(void) {
     free(old);
 }
 
-/* The path of an object that is loaded: of the program itself the loader has none. */
-static const char *path_of(const char *name, const struct link_map *map, char *path, size_t room) {
-    if (map && !map->l_name[0]) {
-        ssize_t n = readlink("/proc/self/exe", path, room - 1);
-        if (n <= 0) return name;
-        path[n] = 0;
+/* An object that is loaded, and an address in it. The loader has no name of the program itself. */
+struct object {
+    unsigned long address, base;
+    const char *name;
+};
+
+static int holds(struct dl_phdr_info *info, size_t size, void *taken) {
+    struct object *object = taken;
+    (void)size;
+    for (int i = 0; i < info->dlpi_phnum; i++) {
+        unsigned long from = info->dlpi_addr + info->dlpi_phdr[i].p_vaddr;
+        if (info->dlpi_phdr[i].p_type != PT_LOAD || object->address < from || object->address - from >= info->dlpi_phdr[i].p_memsz) continue;
+        object->base = info->dlpi_addr;
+        object->name = info->dlpi_name;
+        return 1;
+    }
+    return 0;
+}
+
+/* The path of the object that was asked for last stays. */
+static const char *path_of(const struct object *object) {
+    static char path[4096];
+    static unsigned long base;
+    if (*path && base == object->base) return path;
+    base = object->base;
+    if (!*object->name) {
+        ssize_t n = readlink("/proc/self/exe", path, sizeof path - 1);
+        path[n > 0 ? n : 0] = 0;
         return path;
     }
-    char *whole = realpath(name, NULL);
-    if (!whole) return name;
-    snprintf(path, room, "%s", whole);
+    char *whole = realpath(object->name, NULL);
+    snprintf(path, sizeof path, "%s", whole ? whole : object->name);
     free(whole);
     return path;
 }
 
-/* Tells a site by a line of its own, and gives its number. */
+/* Tells a site by a line of its own, and gives its number. The loader is asked for the object alone, since looking for a symbol takes
+   its time in large libraries. */
 static int tell_site(void *address) {
-    Dl_info info;
-    struct link_map *map = NULL;
-    if (!dladdr1(address, &info, (void **)&map, RTLD_DL_LINKMAP) || !info.dli_fname || is_of_the_library(info.dli_fname)) return 0;
-    char path[4096], text[4600];
-    const char *name = path_of(info.dli_fname, map, path, sizeof path);
-    unsigned long offset = (unsigned long)address - (map ? (unsigned long)map->l_addr : 0);
-    int n = snprintf(text, sizeof text, "site %d %#lx %s\n", ++site_count, offset, name);
+    struct object object = {.address = (unsigned long)address};
+    if (!dl_iterate_phdr(holds, &object) || is_of_the_library(object.name)) return 0;
+    char text[4600];
+    int n = snprintf(text, sizeof text, "site %d %#lx %s\n", ++site_count, object.address - object.base, path_of(&object));
     write_bytes(text, (size_t)n);
     return site_count;
 }

@@ -154,7 +154,7 @@ static void renumber_messages(void) {
             if (!send && (!is_taker_line(line) || !is_named(line))) continue;
             struct channel *channel = channel_at(r, line);
             if (channel->bad) continue;
-            line->tag = instance_count + number_of_message(channel, send ? channel->sends++ : channel->takes++);
+            line->tag = number_of_message(channel, send ? channel->sends++ : channel->takes++);
             line->comm = NULL;
         }
 }

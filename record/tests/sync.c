@@ -8,3 +8,8 @@
 int MPI_Send(TO) { return PMPI_Ssend(TO_ARGS); }
 int MPI_Isend(TO, MPI_Request *request) { return PMPI_Issend(TO_ARGS, request); }
 int MPI_Send_init(TO, MPI_Request *request) { return PMPI_Ssend_init(TO_ARGS, request); }
+
+/* Open MPI's Fortran bindings call these. */
+int PMPI_Send(TO) __attribute__((alias("MPI_Send")));
+int PMPI_Isend(TO, MPI_Request *request) __attribute__((alias("MPI_Isend")));
+int PMPI_Send_init(TO, MPI_Request *request) __attribute__((alias("MPI_Send_init")));
