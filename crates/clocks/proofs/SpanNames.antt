@@ -216,11 +216,11 @@ module _ (p : MpiProgram) (b b' : Blocks) where
       | inl finder ↦ inl finder
       | inr (inl once) ↦ inr (inl once)
       | inr (inr w) ↦ inr (inr (record {
-          receive = w.receive;
-          wait = w.wait;
-          before = w.before;
-          within = same w.receive (let e = w.before in omega (arith, e)) ∙ w.within ∙ sym (same c (omega arith));
-        }))
+        receive = w.receive;
+        wait = w.wait;
+        before = w.before;
+        within = same w.receive (let e = w.before in omega (arith, e)) ∙ w.within ∙ sym (same c (omega arith));
+      }))
     ];
   }
 
@@ -251,16 +251,16 @@ module _ (p : MpiProgram) (e : Configuration) (place : ℕ) (old new : List ℕ)
     own = λ c from. same c ∙ are.own c (let w = are.before in omega (arith, w, from));
     done = λ f g below stretch. elim (cases_lt g (start_of growing place)) [
       | inl before ↦ elim (are.done f g before stretch) [
-          | inl name ↦ inl (same f ∙ name ∙ sym (same g))
-          | inr sender ↦ inr sender
-        ]
+        | inl name ↦ inl (same f ∙ name ∙ sym (same g))
+        | inr sender ↦ inr sender
+      ]
       | inr from ↦ inr (one f g from below stretch)
     ];
   }
 
   -- the calls of a span have its first one's name
   module _ (span : Span) (grows : IsOpenSpan p e place span) (inner : (c : ℕ) → span.first < c → c ≤ span.last → block_of new c ≡ span.first)
-           (outer : (c : ℕ) → (span.first < c → c ≤ span.last → ⊥) → block_of new c ≡ block_of old c) (own : (c : ℕ) → span.first ≤ c → block_of old c ≡ c) where
+      (outer : (c : ℕ) → (span.first < c → c ≤ span.last → ⊥) → block_of new c ≡ block_of old c) (own : (c : ℕ) → span.first ≤ c → block_of old c ≡ c) where
     in_span : (c : ℕ) → span.first ≤ c → c ≤ span.last → block_of new c ≡ span.first
     in_span c from upto = elim (equal_or_less span.first c from) [
       | inl at ↦ outer c (λ less upto. omega (arith, at, less)) ∙ own c from ∙ sym at
@@ -276,10 +276,10 @@ module _ (p : MpiProgram) (e : Configuration) (place : ℕ) (old new : List ℕ)
     member_in : (c : ℕ) → span.first ≤ c → c ≤ span.last → IsMember p (block_of new) c
     member_in c from upto = elim (equal_or_less span.first c from) [
       | inl at ↦ subst (IsMember p (block_of new)) at (record {
-          prompt = λ finder. prompt_of p span.first grows.begins.3;
-          alike = λ finder s. ap (are_fit p s) (sym (in_span span.first (omega arith) (let w = grows.up in omega (arith, w))));
-          returns = inl (begins_finds p span.first grows.begins);
-        })
+        prompt = λ finder. prompt_of p span.first grows.begins.3;
+        alike = λ finder s. ap (are_fit p s) (sym (in_span span.first (omega arith) (let w = grows.up in omega (arith, w))));
+        returns = inl (begins_finds p span.first grows.begins);
+      })
       | inr less ↦
           let follow = grows.follow c less (let w = grows.within in omega (arith, w, upto)) in
           record {
@@ -294,27 +294,27 @@ module _ (p : MpiProgram) (e : Configuration) (place : ℕ) (old new : List ℕ)
         returned false is follow = inr (elim (follow.other is) [
           | inl once ↦ inl once
           | inr w ↦ inr (record {
-              receive = w.receive;
-              wait = w.wait;
-              before = w.before;
-              within = in_span w.receive w.from (let v = w.before in omega (arith, v, upto)) ∙ sym (in_span c from upto);
-            })
+            receive = w.receive;
+            wait = w.wait;
+            before = w.before;
+            within = in_span w.receive w.from (let v = w.before in omega (arith, v, upto)) ∙ sym (in_span c from upto);
+          })
         ])
 
     named_in : ((c : ℕ) → IsNamed p (block_of old) c) → (c : ℕ) → IsNamed p (block_of new) c
     named_in named c = elim (cases_lt c span.first) [
       | inl below ↦ named_kept p (block_of old) (block_of new) c (λ d upto. outer d (λ less high. omega (arith, upto, below, less))) (named c)
       | inr from ↦ elim (cases_lt c span.last) [
-          | inl within ↦ inl (
-              record {
-                one = one_through p c span.first (suc c) (one_rank_back p span.first c (one_in c from (omega (arith, within)))) (one_in (suc c) (omega (arith, from)) (omega (arith, within)));
-                here = member_in c from (omega (arith, within));
-                next = member_in (suc c) (omega (arith, from)) (omega (arith, within));
-              },
-              in_span (suc c) (omega (arith, from)) (omega (arith, within)) ∙ sym (in_span c from (omega (arith, within))),
-            )
-          | inr past ↦ inr (outer (suc c) (λ less high. omega (arith, past, high)) ∙ own (suc c) (omega (arith, from)))
-        ]
+        | inl within ↦ inl (
+          record {
+            one = one_through p c span.first (suc c) (one_rank_back p span.first c (one_in c from (omega (arith, within)))) (one_in (suc c) (omega (arith, from)) (omega (arith, within)));
+            here = member_in c from (omega (arith, within));
+            next = member_in (suc c) (omega (arith, from)) (omega (arith, within));
+          },
+          in_span (suc c) (omega (arith, from)) (omega (arith, within)) ∙ sym (in_span c from (omega (arith, within))),
+        )
+        | inr past ↦ inr (outer (suc c) (λ less high. omega (arith, past, high)) ∙ own (suc c) (omega (arith, from)))
+      ]
     ]
 
   -- names behind a span that has ended
@@ -338,8 +338,8 @@ module _ (p : MpiProgram) (e : Configuration) (place : ℕ) (old new : List ℕ)
           let inner : (c : ℕ) → span.first < c → c ≤ span.last → block_of new c ≡ span.first = is.inner span refl mixed in
           let outer : (c : ℕ) → (span.first < c → c ≤ span.last → ⊥) → block_of new c ≡ block_of old c
           = λ c out. is.other c (λ s some other less upto.
-              let same = same_Some _ _ some in
-              out (let at : span.first ≡ s.first = ap (λ (x : Span). x.first) same in omega (arith, at, less)) (let at : span.last ≡ s.last = ap (λ (x : Span). x.last) same in omega (arith, at, upto))) in
+          let same = same_Some _ _ some in
+          out (let at : span.first ≡ s.first = ap (λ (x : Span). x.first) same in omega (arith, at, less)) (let at : span.last ≡ s.last = ap (λ (x : Span). x.last) same in omega (arith, at, upto))) in
           let grows = are.span in
           record {
             first = outer 0 (λ less upto. omega (arith, less)) ∙ are.first;
@@ -353,12 +353,12 @@ module _ (p : MpiProgram) (e : Configuration) (place : ℕ) (old new : List ℕ)
                     | inr sender ↦ inr sender
                   ]
               | inr from ↦ elim (cases_lt f span.first) [
-                  | inl before ↦ absurd (are.left f g before from stretch)
-                  | inr upto ↦
-                      let up = stretch.up in
-                      let high = grows.last g below stretch.finds from in
-                      inl (in_span span grows inner outer are.own f upto (omega (arith, up, high)) ∙ sym (in_span span grows inner outer are.own g from high))
-                ]
+                | inl before ↦ absurd (are.left f g before from stretch)
+                | inr upto ↦
+                    let up = stretch.up in
+                    let high = grows.last g below stretch.finds from in
+                    inl (in_span span grows inner outer are.own f upto (omega (arith, up, high)) ∙ sym (in_span span grows inner outer are.own g from high))
+              ]
             ];
           }
 
