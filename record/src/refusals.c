@@ -112,7 +112,10 @@ static void refuse_threads(int r) {
 void look_for_refusals(void) {
     for (int r = 0; r < rank_count; r++) {
         if (options.free_tests || options.this_run) leave_out_tests(r);
-        settle_polls(r);
+        if (options.outcomes)
+            settle_choices(r);
+        else
+            settle_polls(r);
         refuse_threads(r);
         for (int i = 0; i < ranks[r].count; i++)
             if (!ranks[r].calls[i].dropped) refuse_call(r, ranks[r].calls + i);

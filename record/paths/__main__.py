@@ -1,0 +1,67 @@
+"""Runs an MPI program again and again with forced outcomes, until each path that it can take is a text that was decided.
+
+usage: paths RECORD NAME RUNS SECONDS ALIKE [OPTION ..] -- MPIRUN WORD ..     as record/record hands them
+
+Nothing of it is proved; docs/PATHS.md tells why its answers are right. Exit status: 0 no deadlock, 1 a deadlock, 2 unknown, 3 refused,
+5 a file failed, 70 mpiprove can't be run."""
+import os
+import sys
+
+from alike import Alike
+from answers import Report
+from decide import Decider
+from explore import Explorer
+from runs import Refused, Runner
+from sites import Sites
+
+RANDOM_MATCHES = 6
+
+
+def is_built(program):
+    """Without a build each answer would take minutes."""
+    build = os.path.join(os.path.dirname(program), 'build')
+    return os.access(program, os.X_OK) and (not os.path.exists(build) or os.path.isdir(build) or
+                                            os.popen("'%s' --state" % build).read().strip() != 'none')
+
+
+def explore(explorer, sites):
+    explorer.explore()
+    while not explorer.deadlock and not explorer.lacks and not explorer.todo and any(sites.open.values()) and not explorer.is_used_up():
+        changed = sites.sample(explorer, RANDOM_MATCHES)
+        if not changed:
+            break
+        for site in changed:
+            sites.open[site] = False
+        explorer.again()
+
+
+def main():
+    record, name, runs, seconds, alike = sys.argv[1:6]
+    rest = sys.argv[6:]
+    options, words = rest[:rest.index('--')], rest[rest.index('--') + 1:]
+    program = os.environ['MPIPROVE']
+    if not is_built(program):
+        print('record: --paths asks mpiprove of each path, which is not built; ./build first', file=sys.stderr)
+        return 70
+    first, last = (int(x) for x in alike.split('-')) if alike != '-' else (0, -1)
+    try:
+        runner = Runner(record, options, words, float(seconds), name)
+    except OSError:
+        print("record: %s.runs can't be written" % name, file=sys.stderr)
+        return 5
+    tell = lambda line: print(line, flush=True)
+    sites = Sites()
+    ranks = Alike(first, last) if alike != '-' else None
+    explorer = Explorer(runner, Decider(program, runner.folder), int(runs), ranks, tell, sites)
+    try:
+        explore(explorer, sites)
+        return Report(explorer, name, tell).write()
+    except Refused as refused:
+        sys.stderr.write(refused.told)
+        return refused.status
+    finally:
+        runner.close()
+
+
+if __name__ == '__main__':
+    sys.exit(main())
