@@ -157,9 +157,9 @@ function exit_status(    i) {
         statuses(helps[i], 0)
     }
     heading("record")
-    entry("0", "the text and its map are written, and the run ended")
-    entry("1", "a fault that the recordings show; or the run hung, and the text is written")
-    entry("2", "the text is written, of a run that was cut off")
+    entry("0", "the text and its map are written, and the run ended; no deadlock on any path of --paths")
+    entry("1", "a fault that the recordings show; or the run hung, and the text is written; a deadlock on a path")
+    entry("2", "the text is written, of a run that was cut off; unknown paths")
     entry("3", "refused: what the run did has no text, with the reason")
     entry("5", "a file failed")
     entry("6", "the words can't be read")

@@ -70,7 +70,8 @@ class Explorer:
     def explore(self):
         base = self.run({})
         again = self.runner.run(self.force_of((c, c.value) for c in self.ordered(base)))
-        if not base.hung and not same_calls(base, again):
+        again.hung = not all(again.ended)
+        if not base.hung and not again.hung and not same_calls(base, again):
             self.lacks.append('the program is not deterministic: %s' % self.first_difference(base, again))
             return
         self.accept(base, [])

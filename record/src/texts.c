@@ -339,7 +339,7 @@ static void note_choices(const struct text *text) {
     if (text->asked || options.outcomes) found_path(P_ONE_OF_SEVERAL);
     if (!text->asked || options.outcomes) return;
     note("one path: %ld receives or probes may find messages of several ranks, and the program asks which one it was (first rank %d in %s): where "
-         "what it does next depends on that, this text is not the program", text->asked, text->asked_rank,
+         "what it does next depends on that, this text is not the program (--paths)", text->asked, text->asked_rank,
          place_of(ranks + text->asked_rank, text->first_asked));
 }
 
