@@ -5,6 +5,7 @@ usage: paths RECORD NAME RUNS SECONDS ALIKE [OPTION ..] -- MPIRUN WORD ..     as
 Nothing of it is proved; docs/PATHS.md tells why its answers are right. Exit status: 0 no deadlock, 1 a deadlock, 2 unknown, 3 refused,
 5 a file failed, 70 mpiprove can't be run."""
 import os
+import signal
 import sys
 
 from alike import Alike
@@ -53,8 +54,12 @@ def main():
     sites = Sites()
     ranks = Alike(first, last) if alike != '-' else None
     explorer = Explorer(runner, Decider(program, runner.folder), int(runs), ranks, tell, sites)
+    signal.signal(signal.SIGTERM, signal.default_int_handler)
     try:
-        explore(explorer, sites)
+        try:
+            explore(explorer, sites)
+        except KeyboardInterrupt:
+            explorer.lacks.append('it was ended by a signal')
         return Report(explorer, name, tell).write()
     except Refused as refused:
         sys.stderr.write(refused.told)
