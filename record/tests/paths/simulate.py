@@ -3,9 +3,10 @@
 usage: simulate.py CONVERT FROM TO [--open] [--alike] [--plant]
 
 Each seed from FROM to below TO is a program of two or three ranks; its runs are made by chance, with the outcomes that the driver
-forces, and recorded as the recorder does, so that the converter CONVERT makes their texts. `--open`: wildcards may be left open;
-`--alike`: programs whose workers may be exchanged for one another, and the driver is told so; `--plant`: one outcome of each choice is
-forgotten, which has to be seen. The last line is `N passed, M failed`."""
+forces, and recorded as the recorder does, so that the converter CONVERT makes their texts. Where no run gets stuck,
+and without other words, there have to be as many paths as there are. `--open`: wildcards may be left open; `--alike`: programs whose
+workers may be exchanged for one another, and the driver is told so; `--plant`: one outcome of each choice is forgotten, which has to
+be seen. The last line is `N passed, M failed`."""
 import collections
 import os
 import random
@@ -158,6 +159,11 @@ class State:
     def start_of(self, rank, name):
         return next((rank, i) for i, c in enumerate(self.calls[rank]) if c[0] in ('isend', 'irecv') and c[-1] == name)
 
+    def outcomes(self):
+        """Of each call with a choice, also what nonblocking receives found."""
+        found = [(at, self.message(send)) for at, send in self.match.items() if self.calls[at[0]][at[1]][0] == 'irecv']
+        return repr(self.out), repr(sorted(found))
+
     def stands_in(self, rank):
         """The call in which a rank waits, or None."""
         return self.calls[rank][-1] if self.calls[rank] and self.out[rank][-1] is None else None
@@ -221,8 +227,8 @@ class State:
 
 
 def can_get_stuck(program):
-    """By a walk through all states; None where there are too many."""
-    seen, todo = set(), [State(program)]
+    """By a walk through all states: whether some run gets stuck, or None where there are too many; and what came of each run that didn't."""
+    seen, todo, ends = set(), [State(program)], set()
     while todo:
         state = todo.pop()
         key = state.key()
@@ -230,15 +236,17 @@ def can_get_stuck(program):
             continue
         seen.add(key)
         if len(seen) > MOST_STATES:
-            return None
+            return None, ends
         steps = list(state.steps())
         if not steps and not all(state.has_ended(r) for r in range(program.size)):
-            return True
+            return True, ends
+        if not steps:
+            ends.add(state.outcomes())
         for step in steps:
             other = state.copy()
             other.apply(step)
             todo.append(other)
-    return False
+    return False, ends
 
 
 class Recorded:
@@ -431,7 +439,7 @@ def main():
     with tempfile.TemporaryDirectory() as folder:
         for seed in range(first, last):
             program = Program(seed, '--alike' in words)
-            truth = can_get_stuck(program)
+            truth, ends = can_get_stuck(program)
             if truth is None:
                 tally['too large'] += 1
                 continue
@@ -443,6 +451,9 @@ def main():
             tally["outcomes that can't be had together"] += explorer.impossible
             tally['outcomes left out since ranks are alike'] += explorer.skipped
             tally['of several paths'] += said == 'no deadlock' and len(explorer.paths) > 1
+            if said == 'no deadlock' and not words and len(ends) != len(explorer.leaves()):
+                wrong += 1
+                print('seed %d: %d paths, said %d' % (seed, len(ends), len(explorer.leaves())), flush=True)
             if said not in (right, 'unknown'):
                 wrong += 1
                 print('seed %d: %s, said %s, open %s' % (seed, right, said, sorted(s for s, o in explorer.sites.open.items() if o)), flush=True)
