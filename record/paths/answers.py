@@ -95,7 +95,7 @@ class Report:
         accepted = x.decider.is_accepted(wide.render(), found.text.render())
         out = ['deadlock on path %d' % found.number]
         for choice, value in found.forced:
-            out.append('outcome %d of rank %d: %s: %s' % (choice.id[1], choice.id[0], choice.site, words_of(path.choices.get(choice.id, choice), value)))
+            out.append('outcome %s of rank %d: %s: %s' % (choice.name(), choice.id[0], choice.site, words_of(path.choices.get(choice.id, choice), value)))
         for rank in range(path.size):
             call = machine.last(rank)
             if call is not None and not machine.is_finished(rank):
@@ -117,8 +117,8 @@ class Report:
                 out.append(indent + (' path %d' % node.leaf.number if not node.is_impossible else " can't be"))
             if node.choice is None:
                 continue
-            choice = self.choice_of(node)
-            out.append('%s choice %d of rank %d: %s' % (indent, node.choice[1], node.choice[0], choice.site if choice else '?'))
+            choice = node.first
+            out.append('%s choice %s of rank %d: %s' % (indent, choice.name(), node.choice[0], choice.site))
             for value, other in sorted(node.skipped.items(), key=str):
                 out.append('%s  %s: as %s' % (indent, words_of(choice, value), words_of(choice, other)))
             for value in sorted(node.asked - set(node.edges), key=str):
@@ -127,9 +127,3 @@ class Report:
             for value, below in sorted(node.edges.items(), key=str, reverse=True):
                 stack.append((below, depth + 2, words_of(choice, value)))
         return out
-
-    def choice_of(self, node):
-        below = node
-        while below.leaf is None and below.edges:
-            below = next(iter(below.edges.values()))
-        return below.leaf.choices.get(node.choice) if below.leaf is not None else None

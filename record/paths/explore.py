@@ -5,14 +5,14 @@ from runs import Refused
 from knowledge import Knowledge
 from machine import outcomes_in_order
 from stuck import are_only_pins_stuck, cannot_be, has_choice, stuck_along, why_not_real
-from texts import FAILED, Text, all_pinned, same_calls
+from texts import FAILED, IN_A_ROW, Text, all_pinned, same_calls
 
 
 class Node:
     """Of a tree over paths: a choice with an edge for each outcome, or a leaf."""
 
     def __init__(self):
-        self.choice = self.leaf = None
+        self.choice = self.first = self.leaf = None       # `first`: the choice as the first path has it
         self.edges, self.asked, self.impossible, self.skipped = {}, set(), set(), {}
         self.spins = self.is_impossible = False
 
@@ -111,14 +111,16 @@ class Explorer:
         """What is told where an outcome wasn't met, or at another call."""
         for choice, value in forced:
             mine = path.choices.get(choice.id)
-            rank, number = choice.id
+            rank, number = choice.id[0], choice.name()
+            if value == FAILED and choice.id[1] % IN_A_ROW and mine is None:
+                continue
             if mine is None and path.hung:
-                return 'a run with forced outcomes ended before outcome %d of rank %d' % (number, rank)
+                return 'a run with forced outcomes ended before outcome %s of rank %d' % (number, rank)
             if mine is None or mine.kind != choice.kind or mine.site != choice.site:
-                return 'the program is not deterministic: outcome %d of rank %d was of %s, and is of %s' % (
+                return 'the program is not deterministic: outcome %s of rank %d was of %s, and is of %s' % (
                     number, rank, choice.site, mine.site if mine else 'none')
             if mine.value not in (value, None) and not (value == FAILED and mine.spins):
-                return 'an outcome could not be forced: %d of rank %d, %s' % (number, rank, choice.site)
+                return 'an outcome could not be forced: %s of rank %d, %s' % (number, rank, choice.site)
         return None
 
     def accept(self, path, forced, node=None, value=None):
@@ -159,10 +161,13 @@ class Explorer:
                 if choice is None:
                     node.leaf = path
                     return trail, node
-                node.choice = choice.id
+                node.choice, node.first = choice.id, choice
             if node.choice is None:
                 return trail, node
             choice = path.choices.get(node.choice)
+            if choice is None and node.first.id[1] % IN_A_ROW:
+                node = node.edges.setdefault(FAILED, Node())        # a poll to which the row didn't come
+                continue
             if choice is None or choice.value is None:
                 return trail, None
             used.add(choice.id)
@@ -234,7 +239,10 @@ class Explorer:
         knowledge = Knowledge(text)
         before = []
         for node, choice in trail:
+            ended = any(c.is_beside(choice) and value != FAILED for c, value in before)     # another poll ended the row
             for value in sorted(knowledge.alternatives(choice), key=str):
+                if ended and value != FAILED:
+                    continue
                 if value in node.edges or value in node.asked or value in node.impossible or (value == FAILED and node.spins):
                     continue
                 if self.alike:
@@ -244,7 +252,8 @@ class Explorer:
                         node.skipped[value] = other
                         continue
                 node.asked.add(value)
-                self.todo.append((list(before), choice, value, node))
+                row = [(c, FAILED) for c in path.choices.values() if c.is_beside(choice) and value != FAILED and (c, c.value) not in before]
+                self.todo.append((before + row, choice, value, node))
             before.append((choice, choice.value))
         self.partly |= knowledge.partly
 

@@ -1,6 +1,7 @@
 """A path of a program: its text with the program's own wildcards, its choices, and the text in which some of them are pinned."""
 
 FAILED = ('failed',)
+IN_A_ROW = 64       # numbers of choices rise by it, and polls in a row have those behind the first one's
 ALL_POLLS = ('test', 'testany', 'testsome', 'testall', 'probe')
 
 
@@ -31,6 +32,15 @@ class Choice:
 
     def is_source(self):
         return self.kind == 'source'
+
+    def name(self):
+        """Its number among the rank's, from 1, and of later polls in a row their place in it."""
+        row, place = divmod(self.id[1], IN_A_ROW)
+        return '%d.%d' % (row, place + 1) if place else '%d' % row
+
+    def is_beside(self, other):
+        """Whether both are polls of one row."""
+        return self is not other and self.id[0] == other.id[0] and self.id[1] // IN_A_ROW == other.id[1] // IN_A_ROW
 
     def is_poll(self):
         return self.kind in ALL_POLLS

@@ -30,24 +30,26 @@ static void settle_open(int r, int i) {
         call->op = OP_OTHER;
 }
 
+/* The call that began a poll or a wait for any that now succeeded, from 1, or 0. It stands in the row that ends there. */
+static int find_opened(const struct rank *rank, int i) {
+    for (int k = i - 1; k >= 0 && is_wait(rank->calls + k); k--)
+        if (rank->calls[k].choice == rank->calls[i].choice) return k + 1;
+    return 0;
+}
+
 void settle_choices(int r) {
     struct rank *rank = ranks + r;
-    int *opened = zeros((size_t)rank->count + 1, sizeof *opened);  /* by number: the call that began it, from 1 */
     for (int i = 0; i < rank->count; i++) {
         struct call *call = rank->calls + i;
         int polls = call->op == OP_TOOK || call->op == OP_IPROBE || call->op == OP_IMPROBE;
-        if (call->choice > rank->count) fail(5, "the recording of rank %d is damaged: a choice has a number that is too high", r);
-        if (is_wait(call) && call->choice) opened[call->choice] = i + 1;
-        if (!polls || !call->choice || !opened[call->choice]) continue;
-        struct call *from = rank->calls + opened[call->choice] - 1;
-        call->opened = opened[call->choice];
+        if (!polls || !call->choice || !(call->opened = find_opened(rank, i))) continue;
+        struct call *from = rank->calls + call->opened - 1;
         call->spins |= from->spins;
         call->op = (unsigned char)settled(call->op);
         from->dropped = 1;
     }
     for (int i = 0; i < rank->count; i++)
         if (is_wait(rank->calls + i) && rank->calls[i].choice && !rank->calls[i].dropped) settle_open(r, i);
-    free(opened);
 }
 
 /* ---- the file ---- */

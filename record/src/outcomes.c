@@ -1,8 +1,8 @@
 /* Outcomes that a program can see: what a wildcard finds, which requests a wait takes, whether a poll succeeds; and forced ones.
 
-   Where RECORD_OUTCOMES names a file, each call of a rank that has such an outcome has a number, from 1 in their order, and `choice N`
-   behind its line tells it. A line of the file forces one: RANK N, and `found SOURCE TAG` (a rank of the whole program), `took NAME ..`
-   (of requests) or `failed`.
+   Where RECORD_OUTCOMES names a file, `choice N` behind the line of a call that has such an outcome tells its number: 64, 128 and so on, and
+   for polls in a row the numbers behind the first one's; so later numbers don't depend on how many of them were made. A line of the file
+   forces one: RANK N, and `found SOURCE TAG` (a rank of the whole program), `took NAME ..` (of requests) or `failed`.
 
    What is forced is waited for before the call, without being taken; then the call is carried out on that alone, so it has no other
    outcome. A poll that has to fail is carried out on a request or a communicator of our own, on which nothing comes; so the library
@@ -16,6 +16,8 @@
 #include <string.h>
 #include <time.h>
 
+#define IN_A_ROW 64
+
 /* A poll is made to fail so often, and so long, before it is let go: then the program only waits for it. */
 #define STUBBORN 100
 #define STUBBORN_NANOSECONDS 20000000L
@@ -25,7 +27,7 @@ struct forced {
     long since;
 };
 static struct forced *forced;
-static int forced_count, choices, is_on;
+static int forced_count, rows, is_on;
 
 int outcomes_on(void) { return is_on; }
 
@@ -60,10 +62,12 @@ void read_outcomes(int rank) {
     fclose(file);
 }
 
-int new_choice(void) {
+int new_choice(int place) {
     if (!is_on) return 0;
-    tell_choice(++choices);
-    return choices;
+    place %= IN_A_ROW;
+    if (!place) rows++;
+    tell_choice(rows * IN_A_ROW + place);
+    return rows * IN_A_ROW + place;
 }
 
 void tell_choice(int choice) {

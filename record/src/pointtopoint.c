@@ -62,7 +62,7 @@ static int is_wild(int peer, int tag) { return peer == MPI_ANY_SOURCE || tag == 
     if (!asked) status = &own_status;
 #define CHOOSE                                 \
     wild = is_wild(peer, tag) && peer != MPI_PROC_NULL; \
-    choice = wild ? new_choice() : 0;          \
+    choice = wild ? new_choice(0) : 0;          \
     force_source(choice, handle, &peer, &tag);
 #define TELL_FOUND \
     if (result == MPI_SUCCESS && wild) tell_source(0, comm_of(handle), status);
@@ -299,7 +299,7 @@ WRAP(Waitall, (int count, MPI_Request requests[], MPI_Status statuses[]), (count
 /* One that waits for any or some is told before the call; so is a poll where outcomes are told, since it may be forced. */
 #define WAIT_FOR(count, requests)                                                      \
     HOLD(count, requests) tell_list(function, "any");                                  \
-    choice = is_choice() ? new_choice() : 0;
+    choice = is_choice() ? new_choice(0) : 0;
 #define POLL_FOR(count, requests)                                                      \
     HOLD(count, requests) choice = is_choice() ? tell_poll(function) : 0;
 

@@ -174,7 +174,8 @@ int end_poll(void) {
     polls[poll_count].line = strcpy(room(NULL, line_length), line);
     line_length--;
     end_call();
-    return polls[poll_count++].choice = new_choice();
+    polls[poll_count].choice = new_choice(poll_count);
+    return polls[poll_count++].choice;
 }
 
 /* The call sites that are told of a call, from the inside out. */

@@ -61,7 +61,7 @@ int end_poll(void);  /* its number, or 0 where outcomes aren't told */
 void read_outcomes(int rank);
 void end_outcomes(void);
 int outcomes_on(void);
-int new_choice(void);  /* the number of the call that was told last, which it tells */
+int new_choice(int place);  /* the number of the call that was told last, which it tells; of polls their place in the row, else 0 */
 void tell_choice(int choice);
 void force_source(int choice, MPI_Comm handle, int *peer, int *tag);
 void force_probe(int choice, MPI_Comm *handle, int *peer, int *tag);

@@ -22,7 +22,7 @@ from knowledge import Knowledge                                         # noqa: 
 from machine import Machine                                             # noqa: E402
 from runs import Refused, Runner                                        # noqa: E402
 from sites import Sites                                                 # noqa: E402
-from texts import FAILED                                                # noqa: E402
+from texts import FAILED, IN_A_ROW                                                # noqa: E402
 
 MOST_STATES = 800
 MOST_RUNS = 150
@@ -289,7 +289,7 @@ class Recorded:
 
     def number(self, at, is_choice):
         if is_choice:
-            self.count[at[0]] += 1
+            self.count[at[0]] += IN_A_ROW
             self.numbers[at] = self.count[at[0]]
         self.choice(at)
 
