@@ -6,6 +6,7 @@ Nothing of it is proved; docs/PATHS.md tells why its answers are right. Exit sta
 5 a file failed, 70 mpiprove can't be run."""
 import os
 import signal
+import subprocess
 import sys
 
 from alike import Alike
@@ -21,8 +22,9 @@ RANDOM_MATCHES = 6
 def is_built(program):
     """Without a build each answer would take minutes."""
     build = os.path.join(os.path.dirname(program), 'build')
-    return os.access(program, os.X_OK) and (not os.path.exists(build) or os.path.isdir(build) or
-                                            os.popen("'%s' --state" % build).read().strip() != 'none')
+    if not os.access(program, os.X_OK) or not os.path.isfile(build):
+        return os.access(program, os.X_OK)
+    return subprocess.run([build, '--state'], stdout=subprocess.PIPE, text=True).stdout.strip() != 'none'
 
 
 def explore(explorer, sites):
@@ -47,6 +49,9 @@ def main():
     first, last = (int(x) for x in alike.split('-')) if alike != '-' else (0, -1)
     try:
         runner = Runner(record, options, words, float(seconds), name)
+    except FileExistsError as there:
+        print('record: %s' % there, file=sys.stderr)
+        return 6
     except OSError:
         print("record: %s.runs can't be written" % name, file=sys.stderr)
         return 5
@@ -62,8 +67,11 @@ def main():
             explorer.lacks.append('it was ended by a signal')
         return Report(explorer, name, tell).write()
     except Refused as refused:
-        sys.stderr.write(refused.told)
-        return refused.status
+        sys.stderr.write(''.join(line + '\n' for line in refused.told.split('\n') if line and 'the recording is kept' not in line))
+        return refused.status if refused.status > 0 else 3
+    except OSError as fault:
+        print("record: %s can't be written" % (fault.filename or name), file=sys.stderr)
+        return 5
     finally:
         runner.close()
 

@@ -215,6 +215,8 @@ class Explorer:
             self.deadlock = Deadlock(path.number, text, machine, forced)
         elif node is not None and cannot_be(text, forced):
             self.take_impossible(path, forced, node, value, text)
+        elif path.end == 'cut off':
+            self.lacks.append('a run was ended, since it made no call for long (--time)')
         else:
             self.lacks.append('a run hung, and why is not shown (%s); forced last: %s' % (
                 why, '; '.join('rank %d, %s, %s' % (c.id[0], c.site, words_of(c, v)) for c, v in forced[-2:])))

@@ -38,8 +38,15 @@ class Runner:
         self.record, self.options, self.words, self.seconds = record, options, words, seconds
         self.folder = name + '.runs'
         self.runs = 0
+        if os.path.lexists(self.folder) and not self.is_ours(self.folder):
+            raise FileExistsError('%s is there, and is none of its own' % self.folder)
         shutil.rmtree(self.folder, ignore_errors=True)
         os.makedirs(self.folder)
+
+    @staticmethod
+    def is_ours(folder):
+        """Whether it may be emptied."""
+        return os.path.isdir(folder) and all(re.fullmatch(r'forced|said|(run|text|wide)\.\w+', name) for name in os.listdir(folder))
 
     def close(self):
         shutil.rmtree(self.folder, ignore_errors=True)
