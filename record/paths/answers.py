@@ -100,6 +100,8 @@ class Report:
             call = machine.last(rank)
             if call is not None and not machine.is_finished(rank):
                 out.append('rank %d waits in %s' % (rank, place_of(path, call)))
+                if call.choice and call.choice.is_poll():
+                    out.append('assumed: polled until it succeeds: %s' % call.choice.site)
         out.append("check accepts the schedule with the program's own wildcards" if accepted else
                    "the schedule was replayed with the program's own wildcards")
         return 1, out + self.counts()[:1]

@@ -33,7 +33,7 @@ class Explorer:
         self.paths, self.lacks, self.deadlock = [], [], None
         self.answers = collections.Counter()
         self.impossible = self.skipped = 0
-        self.partly = False
+        self.partly = self.is_stale = False
 
     # ---- runs
 
@@ -69,24 +69,28 @@ class Explorer:
 
     def explore(self):
         base = self.run({})
-        again = self.runner.run(self.force_of((c, c.value) for c in self.ordered(base)))
-        again.hung = not all(again.ended)
-        if not base.hung and not again.hung and not same_calls(base, again):
-            self.lacks.append('the program is not deterministic: %s' % self.first_difference(base, again))
-            return
         self.accept(base, [])
+        if self.deadlock:
+            return
+        again = self.runner.run(self.force_of((c, c.value) for c in self.ordered(base)))
+        if all(base.ended) and all(again.ended) and not same_calls(base, again):
+            self.lacks.insert(0, 'the program is not deterministic: %s' % self.first_difference(base, again))
+            return
         self.go_on()
 
     def go_on(self):
         while self.todo and not self.deadlock and not self.is_used_up():
-            before, choice, value, node = self.todo.popleft()
+            before, choice, value, node, parent = self.todo.popleft()
             forced = before + [(choice, value)]
             try:
-                self.accept(self.run(self.force_of(forced)), forced, node, value)
+                self.accept(self.run(self.force_of(forced)), forced, node, value, parent)
             except Refused as refused:
                 self.lacks.append('a run was refused: %s; forced last: rank %d, %s, %s' % (
                     refused.reason(), choice.id[0], choice.site, words_of(choice, value)))
             self.tell('%d runs, %d paths, %d outcomes open' % (self.runner.runs, len(self.paths), len(self.todo)))
+            if self.is_stale:
+                self.again()
+                return
 
     def is_used_up(self):
         return self.runner.runs >= self.most_runs
@@ -123,26 +127,38 @@ class Explorer:
                 return 'an outcome could not be forced: %s of rank %d, %s' % (number, rank, choice.site)
         return None
 
-    def accept(self, path, forced, node=None, value=None):
+    def is_explained(self, a, b):
+        """Whether two paths that should have had the same calls differ in what open wildcards found: these are pinned from now on, and
+        the tree is made anew."""
+        sites = {c.site for c in a.choices.values() if c.is_source() and not self.is_pinned(c) and (
+            c.id not in b.choices or b.choices[c.id].value != c.value)}
+        for site in sites:
+            self.sites.open[site] = False
+        self.is_stale |= bool(sites)
+        return bool(sites)
+
+    def accept(self, path, forced, node=None, value=None, parent=None):
         missed = self.misses(path, forced)
         if missed:
-            self.lacks.append(missed)
+            if not parent or not self.is_explained(parent, path):
+                self.lacks.append(missed)
         elif path.hung:
             self.take_hung(path, forced, node, value)
         else:
-            self.take(path, forced)
+            self.take(path, forced, parent)
 
-    def take(self, path, forced):
+    def take(self, path, forced, parent):
         self.sites.learn(self, path)
         trail, leaf = self.insert(path)
         if leaf is None:
-            self.lacks.append('a path lacks an outcome that those beside it have')
+            if not parent or not self.is_explained(parent, path):
+                self.lacks.append('a path lacks an outcome that those beside it have')
             return
         text = Text(path, self.is_pinned)
         if path in self.paths:
             return
         if leaf.leaf is not path:
-            if Text(leaf.leaf, self.is_pinned).render() != text.render():
+            if Text(leaf.leaf, self.is_pinned).render() != text.render() and not self.is_explained(leaf.leaf, path):
                 self.lacks.append('the program is not deterministic: %s' % self.first_difference(leaf.leaf, path))
             return
         self.paths.append(path)
@@ -255,7 +271,7 @@ class Explorer:
                         continue
                 node.asked.add(value)
                 row = [(c, FAILED) for c in path.choices.values() if c.is_beside(choice) and value != FAILED and (c, c.value) not in before]
-                self.todo.append((before + row, choice, value, node))
+                self.todo.append((before + row, choice, value, node, path))
             before.append((choice, choice.value))
         self.partly |= knowledge.partly
 
