@@ -58,7 +58,7 @@ class Report:
         lacks = list(dict.fromkeys(x.lacks))
         lacks += ['%s: %s' % (one(n, 'path'), a) for a, n in sorted(x.answers.items()) if a != 'no deadlock']
         if x.todo:
-            lacks.append('%s followed after %s' % (one(len(x.todo), 'outcome') + (' was' if len(x.todo) == 1 else ' were') + " not", one(x.runner.runs, 'run')))
+            lacks.append('%s not followed after %s' % (one(len(x.todo), 'outcome'), one(x.runner.runs, 'run')))
         if not lacks and x.alike and not x.alike.check(x):
             lacks.append('whether the ranks are alike: %d of %d paths with ranks exchanged had the same calls' % (x.alike.good, x.alike.tried))
         if x.partly:
@@ -95,7 +95,8 @@ class Report:
         accepted = x.decider.is_accepted(wide.render(), found.text.render())
         out = ['deadlock on path %d' % found.number]
         for choice, value in found.forced:
-            out.append('outcome %s of rank %d: %s: %s' % (choice.name(), choice.id[0], choice.site, words_of(path.choices.get(choice.id, choice), value)))
+            words = words_of(path.choices.get(choice.id, choice), value)
+            out.append('outcome %s of rank %d: %s: %s' % (choice.name(), choice.id[0], choice.site, words))
         for rank in range(path.size):
             call = machine.last(rank)
             if call is not None and not machine.is_finished(rank):

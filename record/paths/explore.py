@@ -209,7 +209,8 @@ class Explorer:
             text = Text(path, all_pinned)
             answer, machine, _ = self.real(text)
             if answer == 'deadlock' and machine is None:
-                answer = 'no deadlock' if not has_choice(text) and are_only_pins_stuck(text) else 'a stuck end that is perhaps none of the program: ' + why
+                none = not has_choice(text) and are_only_pins_stuck(text)
+                answer = 'no deadlock' if none else 'a stuck end that is perhaps none of the program: ' + why
         if machine is not None:
             self.deadlock = Deadlock(path.number, text, machine, forced)
         self.answers[answer] += 1

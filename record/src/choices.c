@@ -55,8 +55,9 @@ void settle_choices(int r) {
 /* ---- the file ---- */
 
 static const char *kind_of(const struct call *call) {
-    static const char *const kinds[][2] = {{"MPI_Waitany", "any"},      {"MPI_Waitsome", "some"},     {"MPI_Test", "test"},    {"MPI_Testany", "testany"},
-                                           {"MPI_Testsome", "testsome"}, {"MPI_Testall", "testall"}, {"MPI_Iprobe", "probe"}, {"MPI_Improbe", "probe"}};
+    static const char *const kinds[][2] = {{"MPI_Waitany", "any"}, {"MPI_Waitsome", "some"}, {"MPI_Test", "test"},
+                                           {"MPI_Testany", "testany"}, {"MPI_Testsome", "testsome"}, {"MPI_Testall", "testall"},
+                                           {"MPI_Iprobe", "probe"}, {"MPI_Improbe", "probe"}};
     for (size_t i = 0; i < sizeof kinds / sizeof *kinds; i++)
         if (!strcmp(call->function, kinds[i][0])) return kinds[i][1];
     return "source";
@@ -128,7 +129,8 @@ static void put_choice(FILE *file, struct text *text, int r, const struct call *
     const char *kind = kind_of(from);
     fprintf(file, "choice %d %d %s", r, call->choice, kind);
     put_place(file, r, call, behind);
-    if (!strcmp(kind, "probe") && group) put_envelope(file, "pattern", comm_in_text(text, group->name), from->peer, from->tag < 0 ? from->tag : tag_in_text(text, from->tag));
+    int tag = from->tag < 0 ? from->tag : tag_in_text(text, from->tag);
+    if (!strcmp(kind, "probe") && group) put_envelope(file, "pattern", comm_in_text(text, group->name), from->peer, tag);
     put_options(file, r, from);
     put_value(file, text, call, kind);
     fprintf(file, "site %s, %s%s\n", from->function, words_of(rank, from), callers_of(rank, from));

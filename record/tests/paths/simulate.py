@@ -145,7 +145,8 @@ class State:
         return call[2] == rank and source in (None, send[0]) and tag in (None, call[3])
 
     def messages(self):
-        return [(r, i) for r in range(self.program.size) for i, c in enumerate(self.calls[r]) if c[0] in ('send', 'isend') and (r, i) not in self.match]
+        sends = [(r, i) for r in range(self.program.size) for i, c in enumerate(self.calls[r]) if c[0] in ('send', 'isend')]
+        return [at for at in sends if at not in self.match]
 
     def can_take(self, send, rank, place, source, tag):
         """Whether a receive or probe at that place may find the message: no earlier one of its rank fits, and no earlier receive."""
@@ -281,7 +282,8 @@ class Recorded:
     def choose(self):
         """Sends are buffered mostly, so that forced outcomes come."""
         steps = [s for s in self.state.steps() if self.is_allowed(s)]
-        good = [s for s in steps if not (s[0] == 'issue' and not s[3] and s[2][0] in ('send', 'isend') and s[2][1] == 't') or self.chance.random() < 0.2]
+        waits = lambda s: s[0] == 'issue' and not s[3] and s[2][0] in ('send', 'isend') and s[2][1] == 't'
+        good = [s for s in steps if not waits(s) or self.chance.random() < 0.2]
         return self.chance.choice(good or steps) if steps else None
 
     def call(self, rank, *words):

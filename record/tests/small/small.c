@@ -1,6 +1,6 @@
-/* A small MPI for trials: ranks are processes, messages stand in shared memory, and a rank that waits sleeps. It has MPICH's binary interface for
-   the calls below, so programs and the recorder run with it as they are; a run takes some milliseconds, and one that hangs is seen at once.
-   Standard sends are buffered; collectives are barriers (MPI_Bcast and MPI_Allreduce of ints have data). */
+/* A small MPI for tests: ranks are processes, messages stand in shared memory, and a rank that waits sleeps. It has MPICH's binary
+   interface for the calls below, so programs and the recorder run with it as they are; a run takes some milliseconds. Standard sends are
+   buffered. `mpirun` beside it starts the ranks. */
 #define _GNU_SOURCE
 #include <mpi.h>
 #include <fcntl.h>
@@ -32,13 +32,11 @@ struct shared {
     struct slot slot[SLOTS];
 };
 struct req {
-    int used, kind;          /* 's' sync send, 'd' done, 'r' receive, 'm' receive of a claimed message, 'p' persistent inactive */
+    int used, kind;          /* 's' sync send, 'd' done, 'r' receive, 'm' receive of a claimed message */
     int src, tag, ctx, slot, done;
     void *buffer;
     long bytes;
     MPI_Status status;
-    int persistent, mode, peer;  /* persistent */
-    const void *out;
     long order;
 };
 static struct shared *S;
@@ -157,16 +155,17 @@ static int put(const void *b, long bytes, int to, int tag, int ctx, int sync) {
     return i;
 }
 static int is_done(struct req *q) {
-    if (!q || q->kind == 'd' || q->kind == 'p' || q->kind == 'm') return 1;
+    if (!q || q->kind == 'd' || q->kind == 'm') return 1;
     if (q->kind == 's') return q->slot < 0 || S->slot[q->slot].state == TAKEN;
     return q->done;
 }
 static void end(MPI_Request *h, MPI_Status *s) {  /* of one that is done */
     struct req *q = of(*h);
-    if (!q || q->kind == 'p') { fill(s, MPI_ANY_SOURCE, MPI_ANY_TAG, 0); return; }
+    if (!q) { fill(s, MPI_ANY_SOURCE, MPI_ANY_TAG, 0); return; }
     if (q->kind == 's' && q->slot >= 0) S->slot[q->slot].state = FREE;
     if (q->kind == 'r' || q->kind == 'm') { if (s && s != MPI_STATUS_IGNORE) *s = q->status; } else fill(s, MPI_ANY_SOURCE, MPI_ANY_TAG, 0);
-    if (q->persistent) q->kind = 'p'; else { q->used = 0; *h = MPI_REQUEST_NULL; }
+    q->used = 0;
+    *h = MPI_REQUEST_NULL;
 }
 static void wait_for(struct req *q) { for (progress(); !is_done(q); progress()) nap(); }
 static int blocking(const void *b, int c, MPI_Datatype t, int to, int tag, MPI_Comm m, int sync) {
@@ -202,7 +201,7 @@ B(Waitall, (int k, MPI_Request r[], MPI_Status s[])) { for (int i = 0; i < k; i+
 B(Sendrecv, (const void *b, int c, MPI_Datatype t, int to, int tag, void *b2, int c2, MPI_Datatype t2, int from, int tag2, MPI_Comm m, MPI_Status *s)) {
     PMPI_Send(b, c, t, to, tag, m); return PMPI_Recv(b2, c2, t2, from, tag2, m, s);
 }
-static int active(MPI_Request h) { struct req *q = of(h); return q && q->kind != 'p'; }
+static int active(MPI_Request h) { return of(h) != NULL; }
 static int any_active(int k, MPI_Request r[]) { for (int i = 0; i < k; i++) if (active(r[i])) return 1; return 0; }
 B(Testany, (int k, MPI_Request r[], int *at, int *flag, MPI_Status *s)) {
     *at = MPI_UNDEFINED; *flag = !any_active(k, r);
@@ -285,43 +284,12 @@ B(Imrecv, (void *b, int c, MPI_Datatype t, MPI_Message *h, MPI_Request *r)) {
     lock(); take(S->slot + (*h & 0xffff), q); unlock(); *h = MPI_MESSAGE_NULL; *r = handle(q); return 0;
 }
 B(Mrecv, (void *b, int c, MPI_Datatype t, MPI_Message *h, MPI_Status *s)) { MPI_Request r; PMPI_Imrecv(b, c, t, h, &r); return PMPI_Wait(&r, s); }
-/* persistent */
-#define INIT(name, sync) B(name, (TO, MPI_Request *r)) { struct req *q = fresh('p'); q->persistent = 1; q->mode = 1 + sync; q->out = b; q->bytes = c * size_of(t); q->peer = to; q->tag = tag; q->src = m; *r = handle(q); return 0; }
-INIT(Send_init, 0) INIT(Bsend_init, 0) INIT(Rsend_init, 0) INIT(Ssend_init, 1)
-static MPI_Comm comm_at[4096];
-B(Recv_init, (FROM, MPI_Request *r)) { struct req *q = fresh('p'); q->persistent = 1; q->mode = 0; q->out = b; q->bytes = c * size_of(t); q->peer = from; q->tag = tag; comm_at[q - reqs] = m; *r = handle(q); return 0; }
-B(Start, (MPI_Request *r)) {
-    struct req *q = of(*r);
-    if (q->mode) start_send(q->out, q->bytes, q->peer, q->tag, q->src, q->mode - 1, q);
-    else { static int tags[4096]; if (!q->slot) { tags[q - reqs] = q->tag; q->slot = 1; } start_recv((void *)q->out, q->bytes, q->peer, tags[q - reqs], comm_at[q - reqs], q); }
-    return 0;
-}
-B(Startall, (int k, MPI_Request r[])) { for (int i = 0; i < k; i++) PMPI_Start(r + i); return 0; }
-/* collectives: barriers */
-static void meet(MPI_Comm m) {
-    int x = 0, ctx = 1000 + ctx_of(m);
-    if (m == MPI_COMM_SELF) return;
-    for (int i = 1; i < n && me == 0; i++) { struct req q = {.used = 1, .kind = 'r', .src = i, .tag = 1, .ctx = ctx, .buffer = &x, .bytes = 4}; struct req *p = fresh('r'); long o = p->order; *p = q; p->order = o; lock(); wait_for(p); p->used = 0; unlock(); }
-    if (me == 0) for (int i = 1; i < n; i++) put(&x, 4, i, 2, ctx, 0);
-    else { put(&x, 4, 0, 1, ctx, 0); struct req *p = fresh('r'); p->src = 0; p->tag = 2; p->ctx = ctx; p->buffer = &x; p->bytes = 4; lock(); wait_for(p); p->used = 0; unlock(); }
-}
-B(Barrier, (MPI_Comm m)) { meet(m); return 0; }
-B(Bcast, (void *b, int c, MPI_Datatype t, int root, MPI_Comm m)) {
-    long k = c * size_of(t);
+B(Barrier, (MPI_Comm m)) {
+    MPI_Comm own = (MPI_Comm)(0x84000000u | (unsigned)(1000 + ctx_of(m)));
+    int x = 0;
     if (m == MPI_COMM_SELF) return 0;
-    if (me == root) { for (int i = 0; i < n; i++) if (i != me) put(b, k, i, 3, 1000 + ctx_of(m), 0); }
-    else { struct req *p = fresh('r'); p->src = root; p->tag = 3; p->ctx = 1000 + ctx_of(m); p->buffer = b; p->bytes = k; lock(); wait_for(p); p->used = 0; unlock(); }
+    for (int i = 1; i < n && me == 0; i++) PMPI_Recv(&x, 1, MPI_INT, i, 1, own, MPI_STATUS_IGNORE);
+    for (int i = 1; i < n && me == 0; i++) PMPI_Send(&x, 1, MPI_INT, i, 2, own);
+    if (me) PMPI_Send(&x, 1, MPI_INT, 0, 1, own), PMPI_Recv(&x, 1, MPI_INT, 0, 2, own, MPI_STATUS_IGNORE);
     return 0;
 }
-B(Reduce, (const void *a, void *b, int c, MPI_Datatype t, MPI_Op o, int r, MPI_Comm m)) { (void)a; (void)b; (void)c; (void)t; (void)o; (void)r; meet(m); return 0; }
-B(Allreduce, (const void *a, void *b, int c, MPI_Datatype t, MPI_Op o, MPI_Comm m)) { (void)o; if (a != MPI_IN_PLACE) memcpy(b, a, (size_t)(c * size_of(t))); meet(m); return 0; }
-B(Scan, (const void *a, void *b, int c, MPI_Datatype t, MPI_Op o, MPI_Comm m)) { (void)a; (void)b; (void)c; (void)t; (void)o; meet(m); return 0; }
-B(Exscan, (const void *a, void *b, int c, MPI_Datatype t, MPI_Op o, MPI_Comm m)) { (void)a; (void)b; (void)c; (void)t; (void)o; meet(m); return 0; }
-B(Gather, (const void *a, int c, MPI_Datatype t, void *b, int d, MPI_Datatype u, int r, MPI_Comm m)) { (void)a; (void)c; (void)t; (void)b; (void)d; (void)u; (void)r; meet(m); return 0; }
-B(Scatter, (const void *a, int c, MPI_Datatype t, void *b, int d, MPI_Datatype u, int r, MPI_Comm m)) { (void)a; (void)c; (void)t; (void)b; (void)d; (void)u; (void)r; meet(m); return 0; }
-B(Allgather, (const void *a, int c, MPI_Datatype t, void *b, int d, MPI_Datatype u, MPI_Comm m)) { (void)a; (void)c; (void)t; (void)b; (void)d; (void)u; meet(m); return 0; }
-B(Allgatherv, (const void *a, int c, MPI_Datatype t, void *b, const int d[], const int e[], MPI_Datatype u, MPI_Comm m)) { (void)a; (void)c; (void)t; (void)b; (void)d; (void)e; (void)u; meet(m); return 0; }
-B(Alltoall, (const void *a, int c, MPI_Datatype t, void *b, int d, MPI_Datatype u, MPI_Comm m)) { (void)a; (void)c; (void)t; (void)b; (void)d; (void)u; meet(m); return 0; }
-B(Alltoallv, (const void *a, const int c[], const int x[], MPI_Datatype t, void *b, const int d[], const int e[], MPI_Datatype u, MPI_Comm m)) { (void)a; (void)c; (void)x; (void)t; (void)b; (void)d; (void)e; (void)u; meet(m); return 0; }
-B(Op_create, (MPI_User_function *f, int c, MPI_Op *o)) { (void)f; (void)c; *o = 1; return 0; }
-B(Op_free, (MPI_Op *o)) { *o = MPI_OP_NULL; return 0; }
