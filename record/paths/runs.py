@@ -53,10 +53,14 @@ class Runner:
 
     def run(self, forced):
         """The path of a run with these outcomes. One that was ended too early is tried once more, with more patience."""
-        path = self.run_once(forced, self.seconds / PATIENT)
-        if path.end == 'cut off':
-            path = self.run_once(forced, self.seconds)
-        return path
+        try:
+            path = self.run_once(forced, self.seconds / PATIENT)
+            if path.end != 'cut off':
+                return path
+        except Refused:
+            if not self.was_ended:
+                raise
+        return self.run_once(forced, self.seconds)
 
     def run_once(self, forced, quick):
         self.runs += 1
@@ -91,6 +95,7 @@ class Runner:
     def watch(self, child, recording, quick):
         """Ends a run in which no call came for long, or for a tenth of it where all ranks stand in calls."""
         before, since, began = None, time.monotonic(), time.monotonic()
+        self.was_ended = False
         while child.poll() is None:
             time.sleep(0.02)
             sizes, inside = self.look(recording)
@@ -98,12 +103,13 @@ class Runner:
             if sizes != before:
                 before, since = sizes, now
             waits = quick if inside else self.seconds
-            if sizes and now - since > waits or now - began > 100 * self.seconds:
+            if (sizes and now - since > waits) or now - began > 100 * self.seconds:
+                self.was_ended = True
                 self.end(child)
 
     @staticmethod
     def look(recording):
-        """The sizes of the recordings, and whether each rank stands in a call."""
+        """The sizes of the recordings, and whether each rank has one and stands in a call."""
         sizes, inside = [], True
         try:
             names = [n for n in os.listdir(recording) if n.startswith('rank.')]
@@ -111,8 +117,9 @@ class Runner:
                 file = os.path.join(recording, name)
                 sizes.append((name, os.path.getsize(file)))
                 with open(file, 'rb') as start:
-                    inside &= b'\nstate i' in start.read(400)
-        except OSError:
+                    words = start.read(400).split()     # recording 1 RANK SIZE .. state i
+                    inside &= words[3] == b'%d' % len(names) and words[words.index(b'state') + 1] == b'i'
+        except (OSError, IndexError, ValueError):
             return None, False
         return sizes, inside
 
