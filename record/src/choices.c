@@ -18,13 +18,15 @@ static enum operation settled(enum operation op) {
     }
 }
 
-/* A poll that failed, or a wait for any, without success: it has no line, but where the rank stands in it. */
+/* A poll that failed, or a wait for any, without success: it has no line, but where the rank stands in it. Of what waits for nothing
+   that is known it isn't known what came of it. */
 static void settle_open(int r, int i) {
     struct rank *rank = ranks + r;
     struct call *call = rank->calls + i;
-    if (is_last(rank, i))
-        call->op = strstr(call->function, "probe") ? OP_PROBE : OP_WAIT, call->stands = 1;
-    else if (call->op == OP_POLLS)
+    int probes = strstr(call->function, "probe") != NULL, known = probes || call->count;
+    if (known && is_last(rank, i))
+        call->op = probes ? OP_PROBE : OP_WAIT, call->stands = 1;
+    else if (known && call->op == OP_POLLS)
         call->dropped = 1;
     else
         call->op = OP_OTHER;
@@ -42,6 +44,7 @@ void settle_choices(int r) {
     for (int i = 0; i < rank->count; i++) {
         struct call *call = rank->calls + i;
         int polls = call->op == OP_TOOK || call->op == OP_IPROBE || call->op == OP_IMPROBE;
+        if (call->dropped) call->choice = 0;  /* a test that is left out */
         if (!polls || !call->choice || !(call->opened = find_opened(rank, i))) continue;
         struct call *from = rank->calls + call->opened - 1;
         call->spins |= from->spins;
