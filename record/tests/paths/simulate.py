@@ -60,9 +60,9 @@ class Program:
         for call in calls:
             if call[0] == 'recv' and call[1] is None and make.random() < 0.3:
                 call[0] = make.choice(['poll', 'loop'])
-            elif call[0] == 'recv' and make.random() < 0.2:
+            elif call[0] == 'recv' and make.random() < 0.35:
                 call[0] = 'irecv'
-            elif call[0] == 'send' and make.random() < 0.2:
+            elif call[0] == 'send' and make.random() < 0.35:
                 call[0] = 'isend'
 
     def next(self, rank, history):
