@@ -4,7 +4,7 @@ import os
 import re
 
 from explore import words_of
-from texts import FAILED, Text
+from texts import FAILED, Text, none_pinned
 
 
 def place_of(path, call):
@@ -91,7 +91,7 @@ class Report:
     def deadlock(self):
         x, found = self.explorer, self.explorer.deadlock
         path, machine = found.text.path, found.machine
-        wide = Text(path, lambda choice: False)
+        wide = Text(path, none_pinned)
         accepted = x.decider.is_accepted(wide.render(), found.text.render())
         out = ['deadlock on path %d' % found.number]
         for choice, value in found.forced:

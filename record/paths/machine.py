@@ -14,17 +14,6 @@ class Machine:
         self.takers = [[] for _ in range(text.size)]    # of each rank, issued and not matched
         self.receipts = {c.target.no: c for c in text.calls if c.op in ('mrecv', 'imrecv')}
 
-    def copy(self):
-        other = Machine.__new__(Machine)
-        other.__dict__.update(self.__dict__)
-        other.issued, other.buffered = list(self.issued), set(self.buffered)
-        other.match, other.seen, other.came, other.log = dict(self.match), dict(self.seen), list(self.came), list(self.log)
-        other.sends, other.takers = [list(x) for x in self.sends], [list(x) for x in self.takers]
-        return other
-
-    def key(self):
-        return tuple(self.issued), frozenset(self.buffered), frozenset(self.match.items()), frozenset(self.seen.items())
-
     def is_issued(self, call):
         return call.pos < self.issued[call.rank]
 

@@ -375,6 +375,18 @@ class Simulated:
         return Runner.read(name)
 
 
+def copy_of(machine):
+    other = Machine(machine.text, machine.wide)
+    other.issued, other.buffered = list(machine.issued), set(machine.buffered)
+    other.match, other.seen, other.log = dict(machine.match), dict(machine.seen), list(machine.log)
+    other.sends, other.takers = [list(x) for x in machine.sends], [list(x) for x in machine.takers]
+    return other
+
+
+def key_of(machine):
+    return tuple(machine.issued), frozenset(machine.buffered), frozenset(machine.match.items()), frozenset(machine.seen.items())
+
+
 class Walk:
     """In place of a Decider: all states of a text."""
 
@@ -386,15 +398,15 @@ class Walk:
         seen, stack = set(), [Machine(text)]
         while stack:
             machine = stack.pop()
-            if machine.key() in seen:
+            if key_of(machine) in seen:
                 continue
-            seen.add(machine.key())
+            seen.add(key_of(machine))
             steps = list(machine.steps())
             if not steps and not machine.are_finished():
                 return 'deadlock', machine
             for step in steps:
                 for buffered in (True, False) if step[0] == 'issue' else (False,):
-                    other = machine.copy()
+                    other = copy_of(machine)
                     other.apply(step, buffered)
                     stack.append(other)
         return 'no deadlock', None
