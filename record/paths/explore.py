@@ -4,7 +4,7 @@ import collections
 from runs import Refused
 from knowledge import Knowledge
 from machine import outcomes_in_order
-from stuck import are_only_pins_stuck, cannot_be, has_choice, stuck_along, why_not_real
+from stuck import UNTRIED, are_only_pins_stuck, cannot_be, has_choice, stuck_along, why_not_real
 from texts import FAILED, IN_A_ROW, Text, all_pinned, same_calls
 
 
@@ -199,9 +199,13 @@ class Explorer:
         if answer != 'deadlock':
             return answer, None, answer
         why = why_not_real(machine, machine.log)
-        if why == 'a poll that may fail' and self.sites.spins(self, text.path, machine):
+        if why == UNTRIED:
+            self.sites.try_polls(self, machine)
             why = why_not_real(machine, machine.log)
         return answer, machine if why is None else None, why
+
+    def try_polls(self, machine):
+        self.sites.try_polls(self, machine)
 
     def judge(self, path, text, forced):
         answer, machine, why = self.real(text)
@@ -209,7 +213,7 @@ class Explorer:
             text = Text(path, all_pinned)
             answer, machine, _ = self.real(text)
             if answer == 'deadlock' and machine is None:
-                none = not has_choice(text) and are_only_pins_stuck(text)
+                none = not has_choice(text) and are_only_pins_stuck(text, self.try_polls)
                 answer = 'no deadlock' if none else 'a stuck end that is perhaps none of the program: ' + why
         if machine is not None:
             self.deadlock = Deadlock(path.number, text, machine, forced)
@@ -230,7 +234,7 @@ class Explorer:
             path.number = len(self.paths) + 1
             self.paths.append(path)
             self.deadlock = Deadlock(path.number, text, machine, forced)
-        elif node is not None and cannot_be(text, forced):
+        elif node is not None and cannot_be(text, forced, self.try_polls):
             self.take_impossible(path, forced, node, value, text)
         elif path.end == 'cut off':
             self.lacks.append('a run was ended, since it made no call for long (--time)')

@@ -6,12 +6,12 @@ from knowledge import Knowledge
 from machine import Machine
 from texts import FAILED, Text, all_pinned, same_calls
 
-MOST_RUNS = 3       # that spend a run each on whether a poll is waited for
+MOST_RUNS = 20      # on what follows polls that fail
 
 
 class Sites:
     def __init__(self):
-        self.open, self.tried, self.tests, self.sampled, self.spun = {}, {}, 0, 0, 0
+        self.open, self.tried, self.tests, self.sampled, self.tries = {}, {}, 0, 0, 0
 
     def is_pinned(self, choice):
         return not choice.is_source() or not self.open.get(choice.site, False)
@@ -84,19 +84,22 @@ class Sites:
             outcomes[choice.id] = (choice.kind, value)
         return outcomes, differs
 
-    def spins(self, explorer, path, machine):
-        """Whether the polls in which ranks stand at a stuck end are only waited for, by a run in which each is made to fail."""
-        learned = False
+    def try_polls(self, explorer, machine):
+        """Whether something else follows the polls in which ranks stand at a stuck end, by a run in which each is made to fail."""
+        path = machine.text.path
         for rank in range(path.size):
             call = machine.last(rank)
             choice = call.choice if call is not None and not machine.is_finished(rank) else None
-            if choice is None or not choice.is_poll() or choice.spins or choice.stands or self.spun >= MOST_RUNS:
+            if choice is None or not choice.is_poll() or choice.is_tried or choice.stands or self.tries >= MOST_RUNS:
                 continue
-            self.spun += 1
+            self.tries += 1
             order = explorer.ordered(path)
-            forced = explorer.force_of([(c, c.value) for c in order[:order.index(choice)]] + [(choice, FAILED)])
-            other = explorer.try_run(forced)
+            before = order[:order.index(choice)] if choice in order else []
+            other = explorer.try_run(explorer.force_of([(c, c.value) for c in before] + [(choice, FAILED)]))
             mine = other.choices.get(choice.id) if other else None
-            choice.spins = mine is not None and mine.spins
-            learned |= choice.spins
-        return learned
+            if mine is None:
+                continue
+            choice.is_tried, choice.spins = True, mine.spins
+            for beside in path.choices.values():
+                if beside.is_beside(choice) and beside.id in other.choices:
+                    beside.again |= other.choices[beside.id].again

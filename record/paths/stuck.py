@@ -6,6 +6,7 @@ from texts import FAILED
 
 MOST_BUFFERED = 10      # sets of buffered sends are tried one by one up to so many sends
 MOST_WALKS = 12
+UNTRIED = 'a poll, and it is not known whether something else follows where it fails'
 
 
 def is_option_done(machine, options):
@@ -26,13 +27,9 @@ def can_end(machine, choice):
     return may_probe(machine, choice) if choice.kind == 'probe' else is_option_done(machine, choice.options)
 
 
-def row_of_polls(machine, rank):
-    """The polls that failed right before the call in which a rank stands: it goes through them again and again."""
-    at, out = machine.issued[rank] - 2, []
-    while at >= 0 and machine.text.ranks[rank][at].op == 'nop':
-        out.append(machine.text.ranks[rank][at].choice)
-        at -= 1
-    return out
+def row_of_polls(machine, rank, choice):
+    """The polls of the row in which a rank stands that come again and again."""
+    return [c for c in machine.text.path.choices.values() if c.is_beside(choice) and c.again]
 
 
 def why_goes_on(machine, rank):
@@ -49,10 +46,10 @@ def why_goes_on(machine, rank):
     if choice is None or choice.is_source():
         return None
     if choice.is_poll() and not choice.spins and not choice.stands:
-        return 'a poll that may fail'
+        return 'a poll that may fail' if choice.is_tried else UNTRIED
     if can_end(machine, choice) and (choice.stands or not choice.is_poll()):
         return 'another operation is done'
-    if choice.is_poll() and any(can_end(machine, c) for c in row_of_polls(machine, rank)):
+    if choice.is_poll() and any(can_end(machine, c) for c in row_of_polls(machine, rank, choice)):
         return 'another poll may succeed'
     return None
 
@@ -86,16 +83,22 @@ def stuck_along(text):
     return None
 
 
-def are_only_pins_stuck(text):
+def are_only_pins_stuck(text, try_polls):
     """Where no wildcard has a choice, one run stands for all with the same sends buffered: in none of these is the program stuck, but
-    at most the pins."""
+    at most the pins. `try_polls` finds out what follows the polls at an end."""
     standard = [c.no for c in text.calls if c.is_send() and c.mode == 't']
     if len(standard) > MOST_BUFFERED:
         return False
     for k in range(1 << len(standard)):
         some = {no for i, no in enumerate(standard) if k >> i & 1}
         machine = Machine(text).run(lambda call: call.no in some)
-        if not machine.are_finished() and why_not_real(machine, machine.log) is None:
+        if machine.are_finished():
+            continue
+        why = why_not_real(machine, machine.log)
+        if why == UNTRIED:
+            try_polls(machine)
+            why = why_not_real(machine, machine.log)
+        if why in (None, UNTRIED):
             return False
     return True
 
@@ -117,7 +120,7 @@ def is_unmet(machine, choice, value):
     return not all(machine.is_done(s) for name, starts in choice.options if name in value for s in starts)
 
 
-def cannot_be(text, forced):
+def cannot_be(text, forced, try_polls):
     """Whether no run that the text covers gives these outcomes: one that buffers all it may tells it, where no wildcard has a choice."""
     path = text.path
     for call in text.calls:
@@ -135,4 +138,4 @@ def cannot_be(text, forced):
             return False
     if not any(is_unmet(machine, path.choices[c.id], value) for c, value in forced if c.id in path.choices):
         return False
-    return are_only_pins_stuck(text)
+    return are_only_pins_stuck(text, try_polls)

@@ -28,7 +28,8 @@ class Choice:
     def __init__(self, rank, number, kind):
         self.id, self.kind = (rank, number), kind
         self.value = self.pattern = self.call = None
-        self.options, self.spins, self.stands, self.site = [], False, False, ''
+        self.options, self.stands, self.site = [], False, ''
+        self.spins = self.again = self.is_tried = False     # a poll: nothing else follows it; it came again; whether that is known
 
     def is_source(self):
         return self.kind == 'source'
@@ -114,7 +115,9 @@ class Path:
             elif words[0] == 'value':
                 now.value, now.stands = self.value_of(now, words[1:]), words[1] == 'none' and not now.is_source()
             elif words[0] == 'spins':
-                now.spins = True
+                now.spins = now.is_tried = True
+            elif words[0] == 'again':
+                now.again = True
             elif words[0] == 'site':
                 now.site = ' '.join(words[1:])
             elif words[0] == 'rank':

@@ -47,7 +47,7 @@ void settle_choices(int r) {
         if (call->dropped) call->choice = 0;  /* a test that is left out */
         if (!polls || !call->choice || !(call->opened = find_opened(rank, i))) continue;
         struct call *from = rank->calls + call->opened - 1;
-        call->spins |= from->spins;
+        call->spins |= from->spins, call->again |= from->again;
         call->op = (unsigned char)settled(call->op);
         from->dropped = 1;
     }
@@ -123,6 +123,7 @@ static void put_value(FILE *file, struct text *text, const struct call *call, co
         fprintf(file, "\n");
     }
     if (call->spins) fprintf(file, "spins\n");
+    if (call->again) fprintf(file, "again\n");
 }
 
 static void put_choice(FILE *file, struct text *text, int r, const struct call *call, long behind) {

@@ -42,6 +42,7 @@ struct call {
     unsigned char freed;
     unsigned char dropped;   /* it has no line */
     unsigned char spins;     /* a poll that was made to fail, and that nothing else followed */
+    unsigned char again;     /* a poll that came again behind others of its row */
     unsigned char stands;    /* the rank stands in it, a poll or a wait for any */
 };
 

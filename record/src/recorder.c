@@ -152,9 +152,9 @@ static void begin_line(const char *function, const char *operation) {
 
 static struct poll {
     char *line;
-    int choice;
+    int choice, again;
 } *polls;
-static int poll_count;
+static int poll_count, last_poll;
 
 void begin_call(const char *function, const char *operation) {
     while (poll_count) free(polls[--poll_count].line);
@@ -168,12 +168,16 @@ int end_poll(void) {
     for (int i = 0; i < poll_count; i++)
         if (!strcmp(polls[i].line, line)) {
             line_length = 0;
+            if (i != last_poll && polls[i].choice && !polls[i].again++) plain_line("again %d", polls[i].choice);
+            last_poll = i;
             return polls[i].choice;
         }
+    last_poll = poll_count;
     polls = room(polls, sizeof *polls * (size_t)(poll_count + 1));
     polls[poll_count].line = strcpy(room(NULL, line_length), line);
     line_length--;
     end_call();
+    polls[poll_count].again = 0;
     polls[poll_count].choice = new_choice(poll_count);
     return polls[poll_count++].choice;
 }

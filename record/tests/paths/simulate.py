@@ -257,7 +257,7 @@ class Recorded:
         self.program, self.forced, self.chance = program, forced, random.Random(seed)
         self.lines = [['recording 1 %d %d simulated' % (r, program.size), 'state ?', 'comm 0 world : ' + ' '.join(map(str, range(program.size))),
                        'comm 1 self : %d' % r] for r in range(program.size)]
-        self.numbers, self.count = {}, [0] * program.size
+        self.numbers, self.count, self.in_row = {}, [0] * program.size, [False] * program.size
         self.state = State(program)
         while True:
             step = self.choose()
@@ -287,12 +287,14 @@ class Recorded:
         return self.chance.choice(good or steps) if steps else None
 
     def call(self, rank, *words):
+        self.in_row[rank] &= words[1] == 'polls'
         self.lines[rank].append('call ' + ' '.join('*' if w is None else str(w) for w in words) + ' @')
 
-    def number(self, at, is_choice):
+    def number(self, at, is_choice, polls=False):
         if is_choice:
-            self.count[at[0]] += IN_A_ROW
-            self.numbers[at] = self.count[at[0]]
+            row = self.count[at[0]] // IN_A_ROW * IN_A_ROW
+            self.count[at[0]] = self.count[at[0]] + 1 if self.in_row[at[0]] else row + IN_A_ROW
+            self.numbers[at], self.in_row[at[0]] = self.count[at[0]], polls
         self.choice(at)
 
     def choice(self, at):
@@ -325,12 +327,12 @@ class Recorded:
             self.number(at, True)
         elif op in ('poll', 'loop'):
             self.call(rank, 'MPI_Iprobe', 'polls', 0, call[1], call[2])
-            self.number(at, True)
+            self.number(at, True, True)
             if op == 'loop' and self.forced.get((rank, self.numbers[at]), (0, 0))[1] == FAILED:
                 self.lines[rank].append('spins %d' % self.numbers[at])
         elif op == 'test':
             self.call(rank, 'MPI_Test', 'polls', *call[1])
-            self.number(at, True)
+            self.number(at, True, True)
         else:
             self.call(rank, 'MPI_Finalize', 'end')
 
