@@ -1,0 +1,5 @@
+title='hypre examples: ex1'
+packages='libhypre-dev'
+words='-n 10'
+ranks=2
+prepare() { hypre ex1; }

@@ -1,0 +1,3 @@
+title='p4est tests: comm'
+packages='libp4est-dev'
+prepare() { p4est comm; }

@@ -1,0 +1,4 @@
+title='PnetCDF examples: block_cyclic'
+packages='libpnetcdf-dev'
+words='made.nc'
+prepare() { pnetcdf block_cyclic; }

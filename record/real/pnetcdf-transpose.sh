@@ -1,0 +1,4 @@
+title='PnetCDF examples: transpose'
+packages='libpnetcdf-dev'
+words='made.nc'
+prepare() { pnetcdf transpose; }
