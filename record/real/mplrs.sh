@@ -1,5 +1,6 @@
 title='mplrs: a cube of 4 dimensions'
 packages='mplrs'
+options='--this-run'
 words='cube.ine'
 prepare() { ln -s /usr/bin/mplrs program
     awk 'BEGIN { print "cube\nH-representation\nbegin\n8 5 rational"

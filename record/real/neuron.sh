@@ -1,5 +1,6 @@
 title='NEURON: ParallelContext, 8 units of work'
 packages='python3-neuron'
+options='--this-run'
 words='small.py'
 prepare() { ln -s /usr/bin/python3 program
     printf 'from mpi4py import MPI\nfrom neuron import h\npc = h.ParallelContext()\ndef f(i): return i * i\npc.runworker()
