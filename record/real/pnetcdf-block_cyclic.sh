@@ -1,4 +1,0 @@
-title='PnetCDF examples: block_cyclic'
-packages='libpnetcdf-dev'
-words='made.nc'
-prepare() { pnetcdf block_cyclic; }

@@ -1,4 +1,0 @@
-title='PnetCDF examples: ghost_cell'
-packages='libpnetcdf-dev'
-words='made.nc'
-prepare() { pnetcdf ghost_cell; }

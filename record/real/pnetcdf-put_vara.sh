@@ -1,4 +1,0 @@
-title='PnetCDF examples: put_vara'
-packages='libpnetcdf-dev'
-words='made.nc'
-prepare() { pnetcdf put_vara; }

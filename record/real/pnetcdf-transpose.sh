@@ -1,4 +1,0 @@
-title='PnetCDF examples: transpose'
-packages='libpnetcdf-dev'
-words='made.nc'
-prepare() { pnetcdf transpose; }
