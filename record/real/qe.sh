@@ -1,5 +1,6 @@
 title='Quantum ESPRESSO: silicon'
 packages='quantum-espresso quantum-espresso-data'
+options='--free-tests'
 words='-in small.in'
 prepare() { ln -s /usr/bin/pw.x program
     printf "&control\n calculation='scf', prefix='si', pseudo_dir='/usr/share/espresso/pseudo', outdir='.'\n/\n&system\n ibrav=2, celldm(1)=10.2, nat=2, ntyp=1, ecutwfc=8\n/
