@@ -80,8 +80,8 @@ function add_entry(part, line,    text) {
     part = "front"
     next
 }
-/^[Uu]sage: / {
-    sub(/^[Uu]sage: /, "")
+/^[Uu]sage: |^ +mpiprove run / {
+    sub(/^[Uu]sage: |^ +/, "")
     add("usage", $0)
     part = help == "record" ? "Options:" : "notes"
     next
@@ -119,7 +119,7 @@ function statuses(command, common,    k, line, text) {
     }
 }
 
-function name_and_synopsis(    i) {
+function name_and_synopsis(    i, k) {
     print ".\\\" Made by install/man of the help of the program."
     split(version, words, " ")
     print ".TH MPIPROVE 1 " day " \"" version "\" \"User Commands\""
@@ -129,7 +129,8 @@ function name_and_synopsis(    i) {
     fill("mpiprove - " lines["top", "front", 1])
     print ".SH SYNOPSIS"
     print ".nf"
-    for (i = 1; i <= helped; i++) print usage(lines[helps[i], "usage", 1])
+    for (i = 1; i <= helped; i++)
+        for (k = 1; k <= count[helps[i], "usage"]; k++) print usage(lines[helps[i], "usage", k])
     print ".fi"
 }
 
@@ -137,6 +138,7 @@ function commands() {
     print ".SH COMMANDS"
     entries("top", "Commands:")
     entry("record", "Runs an MPI program, and writes its text and its map")
+    entry("run", "The same, and tells whether some run of the text gets stuck, and where")
 }
 
 function options(    i) {
@@ -150,16 +152,16 @@ function options(    i) {
 
 function exit_status(    i) {
     print ".SH EXIT STATUS"
-    fill("Of each command but record:")
+    fill("Of each command but record and run:")
     statuses(helps[2], 1)
     for (i = 2; i < helped; i++) {
         heading(helps[i])
         statuses(helps[i], 0)
     }
-    heading("record")
-    entry("0", "the text and its map are written, and the run ended")
-    entry("1", "a fault that the recordings show; or the run hung, and the text is written")
-    entry("2", "the text is written, of a run that was cut off")
+    heading("record, mpiprove run")
+    entry("0", "the text and its map are written, and the run ended; of run and --paths also no deadlock")
+    entry("1", "a fault that the recordings show; or the run hung, and the text is written; of run and --paths also deadlock")
+    entry("2", "the text is written, of a run that was cut off; of run and --paths also unknown")
     entry("3", "refused: what the run did has no text, with the reason")
     entry("5", "a file failed")
     entry("6", "the words can't be read")
@@ -182,6 +184,7 @@ function examples(    i, k) {
     for (i = 1; i <= helped; i++)
         for (k = 1; k <= count[helps[i], "Example:"]; k++) example(lines[helps[i], "Example:", k])
     example("mpiprove record -o halo mpirun -n 4 ./halo")
+    example("mpiprove run -o halo mpirun -n 4 ./halo")
     print ".fi"
 }
 

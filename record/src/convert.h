@@ -34,12 +34,16 @@ struct call {
     int found, found_tag;    /* what a wildcard found, or WRONG */
     int message;             /* a probe and the receive behind it that are written as a matched probe and its receive */
     int phase;
+    int choice, opened;      /* the number of its outcome, or 0; of a success the call that began it, from 1 */
     unsigned char op, mode;  /* enum operation; of a send t, s, b or r */
     unsigned char asked;     /* whether the program took the status of what a wildcard found */
     unsigned char error;     /* it returned one: NOT_BEGUN or NOT_KNOWN */
     unsigned char unwaited;  /* a start: its request is freed, or open at the end */
     unsigned char freed;
     unsigned char dropped;   /* it has no line */
+    unsigned char spins;     /* a poll that was made to fail, and that nothing else followed */
+    unsigned char again;     /* a poll that came again behind others of its row */
+    unsigned char stands;    /* the rank stands in it, a poll or a wait for any */
 };
 
 /* Call sites, from the inside out. */
@@ -120,6 +124,7 @@ struct line {
     int *list, count;
     struct call *call;
     const char *remark;
+    long number;             /* in the text that was made last, from 1 */
     unsigned char issued, done, received;  /* where the ranks stand at the end: see ends.c */
 };
 
@@ -173,6 +178,7 @@ struct options {
     int this_run;            /* the path that the run took is taken */
     int free_tests;          /* tests of sends alone are left out */
     int leave_out;           /* calls that are refused are left out */
+    int outcomes;            /* calls that depend on what has arrived are taken as they came, and told in NAME.choices */
     int phases, small;       /* small: the same runs in fewer events and pairs */
 };
 extern struct options options;
@@ -202,6 +208,10 @@ struct group *group_named(const char *name, int rank, int size, int *members, co
 
 /* polls.c: waits and probes that were polled for, or taken one by one */
 void settle_polls(int rank);
+
+/* choices.c: the outcomes that the program could see */
+void settle_choices(int rank);
+void write_choices(const char *name, struct text *text);
 
 /* refusals.c */
 int tells_sends_alone(const struct rank *rank, const struct call *call);
@@ -249,6 +259,8 @@ void make_small(void);
 
 /* texts.c, different.c: of one phase, or of all where the phase is negative */
 struct text make_text(int phase, int plain, const char *name);
+int comm_in_text(struct text *text, const char *comm);
+int tag_in_text(struct text *text, int tag);
 void write_text(const char *name, int phase, const char *suffix);
 void free_text(struct text *text);
 void write_phases(const char *name, int count);

@@ -145,7 +145,7 @@ static void add_call(int rank, struct call *call) {
 /* What is held at the end gets a line that ends it, since a text has one for each start. */
 static void add_end(int rank, int id, struct call *start) {
     int before = lines[rank].count;
-    if (start->op == OP_IRECV || start->op == OP_ICOLL || start->op == OP_IMRECV)
+    if (start->op == OP_IRECV || start->op == OP_ICOLL || (start->op == OP_IMRECV && start->of > 0))
         add_waits(rank, start, &id, 1);
     else if (start->op == OP_MPROBE)
         add_line(rank, W_MRECV, start)->of = id;

@@ -1,7 +1,7 @@
 /* Makes the program text of all ranks, and its map, from the recordings of a run.
 
    usage: convert [OPTION ..] DIRECTORY NAME
-   writes NAME.mpi and NAME.map, and with --phases NAME.1.mpi, NAME.1.map and so on; tells what it did on standard output.
+   writes NAME.mpi and NAME.map, with --phases NAME.1.mpi, NAME.1.map and so on, with --outcomes NAME.choices; tells what it did on standard output.
    Exit status: 0 written; 1 a fault that the recordings show, or the run hung; 2 written, of a run that was cut off; 3 refused; 5 a file
    failed; 6 usage; 70 out of memory. */
 #include "convert.h"
@@ -14,7 +14,7 @@ struct options options = {.policy = "any", .run = RUN_UNKNOWN};
 
 static _Noreturn void usage(void) {
     fprintf(stderr, "usage: convert [--policy any|none|all] [--collectives least|most] [--free-tests] [--this-run] [--leave-out] [--phases] "
-                    "[--small] [--run time|STATUS] DIRECTORY NAME\n");
+                    "[--small] [--outcomes] [--run time|STATUS] DIRECTORY NAME\n");
     exit(6);
 }
 
@@ -47,7 +47,7 @@ static int take_options(int count, char **words) {
         const char *word;
         int *option;
     } flags[] = {{"--this-run", &options.this_run},   {"--free-tests", &options.free_tests}, {"--leave-out", &options.leave_out},
-                 {"--phases", &options.phases}, {"--small", &options.small}};
+                 {"--phases", &options.phases}, {"--small", &options.small}, {"--outcomes", &options.outcomes}};
     int at = 1;
     for (; at < count && !strncmp(words[at], "--", 2); at++) {
         size_t k = 0;
@@ -124,7 +124,7 @@ int main(int count, char **words) {
     for (int r = 0; r < rank_count; r++) {
         settle_starts(r);
         join_probes(r);
-        warn_of_paths(r);
+        if (!options.outcomes) warn_of_paths(r);
         tell_rank(r);
     }
     leave_out_unmatched();

@@ -65,7 +65,7 @@ static void look_behind_wait(const struct rank *rank, int i) {
 static void warn(int r, const struct use *use, const char *does) {
     if (!use->several || use->times < 2 || use->times * 2 <= use->of) return;
     found_path(P_ONE_OF_SEVERAL);
-    note("WARNING: %d of %d times rank %d %s whom it found (first in %s): the program seems not to be single-path; --twice may tell", use->times, use->of, r,
+    note("WARNING: %d of %d times rank %d %s whom it found (first in %s): the program seems not to be single-path; --twice may tell, --paths follows the others", use->times, use->of, r,
          does, place_of(ranks + r, use->first));
 }
 

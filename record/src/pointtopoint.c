@@ -44,7 +44,9 @@ static void tell_recv(const char *function, int count, MPI_Datatype type, int pe
 /* ---- what wildcards find ---- */
 
 static _Thread_local MPI_Status own_status, *own_statuses;
-static _Thread_local int asked;  /* whether the program takes the status */
+static _Thread_local int asked;   /* whether the program takes the status */
+static _Thread_local int wild;    /* whether a wildcard stands in the call, which may be forced to find something */
+static _Thread_local int choice;  /* the number of the call's outcome, or 0 */
 
 /* What a wildcard found is told behind the call, and whether the program asked: the converter warns of programs that use it. The name
    is that of a receive's request, and 0 for the call itself. */
@@ -58,10 +60,14 @@ static int is_wild(int peer, int tag) { return peer == MPI_ANY_SOURCE || tag == 
 #define ASK                               \
     asked = status != MPI_STATUS_IGNORE;  \
     if (!asked) status = &own_status;
+#define CHOOSE                                 \
+    wild = is_wild(peer, tag) && peer != MPI_PROC_NULL; \
+    choice = wild ? new_choice(0) : 0;          \
+    force_source(choice, handle, &peer, &tag);
 #define TELL_FOUND \
-    if (result == MPI_SUCCESS && is_wild(peer, tag)) tell_source(0, comm_of(handle), status);
+    if (result == MPI_SUCCESS && wild) tell_source(0, comm_of(handle), status);
 
-WRAP(Recv, (FROM, MPI_Status *status), (TO_ARGS, status), tell_recv(function, count, type, peer, tag, handle); ASK, TELL_FOUND)
+WRAP(Recv, (FROM, MPI_Status *status), (TO_ARGS, status), tell_recv(function, count, type, peer, tag, handle); ASK CHOOSE, TELL_FOUND)
 
 static void tell_both(const char *function, MPI_Comm handle, int to, int sendtag, long sent, int from, int recvtag, long received) {
     struct comm *comm = comm_of(handle);
@@ -78,11 +84,11 @@ WRAP(Sendrecv,
      (const void *sendbuf, int sendcount, MPI_Datatype sendtype, int to, int sendtag, void *recvbuf, int recvcount,
       MPI_Datatype recvtype, int peer, int tag, MPI_Comm handle, MPI_Status *status),
      (sendbuf, sendcount, sendtype, to, sendtag, recvbuf, recvcount, recvtype, peer, tag, handle, status),
-     tell_both(function, handle, to, sendtag, bytes_of(sendcount, sendtype), peer, tag, bytes_of(recvcount, recvtype)); ASK, TELL_FOUND)
+     tell_both(function, handle, to, sendtag, bytes_of(sendcount, sendtype), peer, tag, bytes_of(recvcount, recvtype)); ASK CHOOSE, TELL_FOUND)
 WRAP(Sendrecv_replace,
      (void *buffer, int count, MPI_Datatype type, int to, int sendtag, int peer, int tag, MPI_Comm handle, MPI_Status *status),
      (buffer, count, type, to, sendtag, peer, tag, handle, status),
-     tell_both(function, handle, to, sendtag, bytes_of(count, type), peer, tag, bytes_of(count, type)); ASK, TELL_FOUND)
+     tell_both(function, handle, to, sendtag, bytes_of(count, type), peer, tag, bytes_of(count, type)); ASK CHOOSE, TELL_FOUND)
 
 /* ---- nonblocking ---- */
 
@@ -113,12 +119,11 @@ static int tell_irecv(const char *function, long bytes, struct comm *comm, int p
 
 static _Thread_local int keep;  /* the name that is given before the call and used behind it */
 
-static void add_receive(const MPI_Request *where, MPI_Comm handle, int peer, int tag) {
+static void add_receive(const MPI_Request *where, MPI_Comm handle) {
     struct request *request = add_request(where, keep);
-    if (!request || !is_wild(peer, tag)) return;
+    if (!request || !wild) return;
     request->comm = comm_of(handle);
-    request->peer = peer;
-    request->tag = tag;
+    request->peer = MPI_ANY_SOURCE;
 }
 
 WRAP_ISEND(Isend, 't')
@@ -126,8 +131,8 @@ WRAP_ISEND(Issend, 's')
 WRAP_ISEND(Ibsend, 'b')
 WRAP_ISEND(Irsend, 'r')
 WRAP(Irecv, (FROM, MPI_Request *request), (TO_ARGS, request),
-     keep = tell_irecv(function, bytes_of(count, type), comm_of(handle), peer, tag);
-     , if (result == MPI_SUCCESS) add_receive(request, handle, peer, tag);)
+     keep = tell_irecv(function, bytes_of(count, type), comm_of(handle), peer, tag); CHOOSE
+     , if (result == MPI_SUCCESS) add_receive(request, handle);)
 
 /* ---- persistent ---- */
 
@@ -150,9 +155,14 @@ WRAP_INIT(Rsend_init, 'r')
 WRAP(Recv_init, (FROM, MPI_Request *request), (TO_ARGS, request),
      , if (result == MPI_SUCCESS) set_up(request, 0, bytes_of(count, type), handle, peer, tag);)
 
+static int is_wild_receive(const struct request *request) {
+    return request && request->comm && !request->send && is_wild(request->peer, request->tag);
+}
+
 static void tell_start(const char *function, const MPI_Request *where) {
     struct request *request = requests_of(1, where)[0];
-    if (!request || request->kind != 'p') {
+    /* what a persistent receive finds can't be forced */
+    if (!request || request->kind != 'p' || (outcomes_on() && is_wild_receive(request))) {
         begin_call(function, "other");
         end_call();
         return;
@@ -172,28 +182,45 @@ WRAP(Startall, (int count, MPI_Request requests[]), (count, requests),
     if (id) put(" %d", id);                    \
     put_source(comm_of(handle), peer, tag);    \
     end_call();
-#define TELL_FAILED_PROBE                      \
-    begin_poll(function);                      \
-    put_source(comm_of(handle), peer, tag);    \
-    end_poll();
 
-WRAP(Probe, (int peer, int tag, MPI_Comm handle, MPI_Status *status), (peer, tag, handle, status), TELL_PROBE("probe", 0) ASK, TELL_FOUND)
+WRAP(Probe, (int peer, int tag, MPI_Comm handle, MPI_Status *status), (peer, tag, handle, status), TELL_PROBE("probe", 0) ASK CHOOSE, TELL_FOUND)
 WRAP(Mprobe, (int peer, int tag, MPI_Comm handle, MPI_Message *message, MPI_Status *status), (peer, tag, handle, message, status),
-     keep = fresh_name(); TELL_PROBE("mprobe", keep) ASK,
+     keep = fresh_name(); TELL_PROBE("mprobe", keep) ASK CHOOSE,
      TELL_FOUND if (result == MPI_SUCCESS && peer != MPI_PROC_NULL) add_message(message, keep);)
-/* Behind the call, since only then it is known whether it succeeded. */
-WRAP(Iprobe, (int peer, int tag, MPI_Comm handle, int *flag, MPI_Status *status), (peer, tag, handle, flag, status), ASK,
-     if (result == MPI_SUCCESS && peer != MPI_PROC_NULL) {
-         if (*flag) { TELL_PROBE("iprobe", 0) TELL_FOUND } else { TELL_FAILED_PROBE }
-     })
+
+/* The arguments of a probe that may fail, which are others where its outcome is forced. */
+static _Thread_local struct {
+    MPI_Comm handle;
+    int peer, tag;
+} polled;
+
+static int tell_failed_probe(const char *function) {
+    if (polled.peer == MPI_PROC_NULL) return 0;
+    begin_poll(function);
+    put_source(comm_of(polled.handle), polled.peer, polled.tag);
+    return end_poll();
+}
+
+/* Behind the call, since only then it is known whether it succeeded; but before it where outcomes are told, since it may be forced. */
+#define POLL_PROBE                                                               \
+    ASK polled.handle = handle, polled.peer = peer, polled.tag = tag;            \
+    wild = is_wild(peer, tag);                                                   \
+    choice = outcomes_on() ? tell_failed_probe(function) : 0;                    \
+    force_probe(choice, &handle, &peer, &tag);
+#define TELL_POLLED(operation, id)                                               \
+    handle = polled.handle, peer = polled.peer, tag = polled.tag;                \
+    TELL_PROBE(operation, id) tell_choice(choice); TELL_FOUND
+
+WRAP(Iprobe, (int peer, int tag, MPI_Comm handle, int *flag, MPI_Status *status), (peer, tag, handle, flag, status), POLL_PROBE,
+     if (result == MPI_SUCCESS && !*flag) tell_failed_probe(function);
+     if (result == MPI_SUCCESS && *flag && polled.peer != MPI_PROC_NULL) { TELL_POLLED("iprobe", 0) })
 WRAP(Improbe, (int peer, int tag, MPI_Comm handle, int *flag, MPI_Message *message, MPI_Status *status),
-     (peer, tag, handle, flag, message, status), ASK,
-     if (result == MPI_SUCCESS && peer != MPI_PROC_NULL) {
-         if (*flag) {
-             keep = fresh_name();
-             TELL_PROBE("improbe", keep) TELL_FOUND
-             add_message(message, keep);
-         } else { TELL_FAILED_PROBE }
+     (peer, tag, handle, flag, message, status), POLL_PROBE,
+     if (result == MPI_SUCCESS && !*flag) tell_failed_probe(function);
+     if (result == MPI_SUCCESS && *flag && polled.peer != MPI_PROC_NULL) {
+         keep = fresh_name();
+         TELL_POLLED("improbe", keep)
+         add_message(message, keep);
      })
 
 WRAP(Mrecv, (void *buffer, int count, MPI_Datatype type, MPI_Message *message, MPI_Status *status), (buffer, count, type, message, status),
@@ -206,25 +233,29 @@ WRAP(Imrecv, (void *buffer, int count, MPI_Datatype type, MPI_Message *message, 
 
 /* What the handles stand for is looked up before the call, since they are gone behind it. */
 static _Thread_local struct request **held;
+static _Thread_local int held_count;
 
-static void put_names(int count) {
-    for (int i = 0; i < count; i++) put_name(name_of(held[i]));
+static void put_names(void) {
+    for (int i = 0; i < held_count; i++) put_name(name_of(held[i]));
 }
 
-static void tell_list(const char *function, const char *operation, int count) {
+static void tell_list(const char *function, const char *operation) {
     begin_call(function, operation);
-    put_names(count);
+    put_names();
     end_call();
 }
 
-static void tell_poll(const char *function, int count) {
+static int tell_poll(const char *function) {
     begin_poll(function);
-    put_names(count);
-    end_poll();
+    put_names();
+    return end_poll();
 }
 
-static int is_wild_receive(const struct request *request) {
-    return request && request->comm && !request->send && is_wild(request->peer, request->tag);
+/* Whether something is waited for, and what comes of it can be another thing in another run. */
+static int is_choice(void) {
+    int some = 0;
+    for (int i = 0; i < held_count; i++) some |= name_of(held[i]) != NOTHING;
+    return some && outcomes_on();
 }
 
 /* Statuses of our own where a receive with a wildcard is among the requests and the program wants none. */
@@ -253,41 +284,58 @@ static void tell_took(const char *function, int count, const int *indices, const
     begin_call(function, "took");
     for (int k = 0; k < count; k++) put_name(name_of(held[indices ? indices[k] : k]));
     end_call();
+    tell_choice(choice);
     for (int k = 0; k < count; k++) end_request(indices ? indices[k] : k, statuses + k);
 }
 
-#define HOLD(count, requests) held = requests_of(count, requests);
+#define HOLD(count, requests) held = requests_of(count, requests), held_count = count;
 #define ONE_STATUS(count) status = take_statuses(count, status, MPI_STATUS_IGNORE);
 #define ALL_STATUSES statuses = take_statuses(count, statuses, MPI_STATUSES_IGNORE);
 
-WRAP(Wait, (MPI_Request * request, MPI_Status *status), (request, status), HOLD(1, request) tell_list(function, "wait", 1); ONE_STATUS(1),
+WRAP(Wait, (MPI_Request * request, MPI_Status *status), (request, status), HOLD(1, request) tell_list(function, "wait"); ONE_STATUS(1),
      if (result == MPI_SUCCESS) end_requests(1, status);)
 WRAP(Waitall, (int count, MPI_Request requests[], MPI_Status statuses[]), (count, requests, statuses),
-     HOLD(count, requests) tell_list(function, "wait", count); ALL_STATUSES, if (result == MPI_SUCCESS) end_requests(count, statuses);)
+     HOLD(count, requests) tell_list(function, "wait"); ALL_STATUSES, if (result == MPI_SUCCESS) end_requests(count, statuses);)
+/* One that waits for any or some is told before the call; so is a poll where outcomes are told, since it may be forced. */
+#define WAIT_FOR(count, requests)                                                      \
+    HOLD(count, requests) tell_list(function, "any");                                  \
+    choice = is_choice() ? new_choice(0) : 0;
+#define POLL_FOR(count, requests)                                                      \
+    HOLD(count, requests) choice = is_choice() ? tell_poll(function) : 0;
+
 WRAP(Waitany, (int count, MPI_Request requests[], int *index, MPI_Status *status), (count, requests, index, status),
-     HOLD(count, requests) tell_list(function, "any", count); ONE_STATUS(count),
+     WAIT_FOR(count, requests) ONE_STATUS(count) requests = force_requests(choice, &count, requests, held);
+     , end_forced(held_count, held);
      if (result == MPI_SUCCESS && *index != MPI_UNDEFINED) tell_took(function, 1, index, status);)
 WRAP(Waitsome, (int count, MPI_Request requests[], int *outcount, int indices[], MPI_Status statuses[]),
-     (count, requests, outcount, indices, statuses), HOLD(count, requests) tell_list(function, "any", count); ALL_STATUSES,
+     (count, requests, outcount, indices, statuses),
+     WAIT_FOR(count, requests) ALL_STATUSES requests = force_requests(choice, &count, requests, held);
+     , end_forced(held_count, held);
      if (result == MPI_SUCCESS && *outcount != MPI_UNDEFINED) tell_took(function, *outcount, indices, statuses);)
 
-/* Behind the call, since only then it is known whether it succeeded. */
-WRAP(Test, (MPI_Request * request, int *flag, MPI_Status *status), (request, flag, status), HOLD(1, request) ONE_STATUS(1),
-     if (result == MPI_SUCCESS && *flag) tell_took(function, 1, NULL, status); else if (result == MPI_SUCCESS) tell_poll(function, 1);)
+WRAP(Test, (MPI_Request * request, int *flag, MPI_Status *status), (request, flag, status),
+     int count = 1; POLL_FOR(1, request) ONE_STATUS(1) request = force_requests(choice, &count, request, held);
+     , end_forced(held_count, held);
+     if (result == MPI_SUCCESS && *flag) tell_took(function, 1, NULL, status); else if (result == MPI_SUCCESS) tell_poll(function);)
 WRAP(Testany, (int count, MPI_Request requests[], int *index, int *flag, MPI_Status *status), (count, requests, index, flag, status),
-     HOLD(count, requests) ONE_STATUS(count),
+     POLL_FOR(count, requests) ONE_STATUS(count) requests = force_requests(choice, &count, requests, held);
+     , end_forced(held_count, held);
      if (result == MPI_SUCCESS && *flag && *index != MPI_UNDEFINED) tell_took(function, 1, index, status);
-     else if (result == MPI_SUCCESS && !*flag) tell_poll(function, count);)
+     else if (result == MPI_SUCCESS && !*flag) tell_poll(function);)
 WRAP(Testsome, (int count, MPI_Request requests[], int *outcount, int indices[], MPI_Status statuses[]),
-     (count, requests, outcount, indices, statuses), HOLD(count, requests) ALL_STATUSES,
+     (count, requests, outcount, indices, statuses),
+     POLL_FOR(count, requests) ALL_STATUSES requests = force_requests(choice, &count, requests, held);
+     , end_forced(held_count, held);
      if (result == MPI_SUCCESS && *outcount > 0) tell_took(function, *outcount, indices, statuses);
-     else if (result == MPI_SUCCESS && *outcount == 0) tell_poll(function, count);)
+     else if (result == MPI_SUCCESS && *outcount == 0) tell_poll(function);)
 WRAP(Testall, (int count, MPI_Request requests[], int *flag, MPI_Status statuses[]), (count, requests, flag, statuses),
-     HOLD(count, requests) ALL_STATUSES,
-     if (result == MPI_SUCCESS && *flag) tell_took(function, count, NULL, statuses); else if (result == MPI_SUCCESS) tell_poll(function, count);)
+     POLL_FOR(count, requests) ALL_STATUSES requests = force_requests(choice, &count, requests, held);
+     , end_forced(held_count, held);
+     if (result == MPI_SUCCESS && *flag) tell_took(function, held_count, NULL, statuses);
+     else if (result == MPI_SUCCESS) tell_poll(function);)
 WRAP(Request_get_status, (MPI_Request request, int *flag, MPI_Status *status), (request, flag, status), ,
      begin_poll(function); end_poll();)
 
 WRAP(Request_free, (MPI_Request * request), (request),
-     HOLD(1, request) if (name_of(held[0]) != NOTHING) tell_list(function, "free", 1);, if (result == MPI_SUCCESS) drop(held[0]);)
-WRAP(Cancel, (MPI_Request * request), (request), HOLD(1, request) tell_list(function, "cancel", 1);, )
+     HOLD(1, request) if (name_of(held[0]) != NOTHING) tell_list(function, "free");, if (result == MPI_SUCCESS) drop(held[0]);)
+WRAP(Cancel, (MPI_Request * request), (request), HOLD(1, request) tell_list(function, "cancel");, )

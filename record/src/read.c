@@ -324,6 +324,23 @@ static void read_failure(struct call *last) {
     last->wrong = same(word(2));
 }
 
+/* `choice N`: the number of the last call's outcome; of the poll with this number `spins N`, that nothing else follows it, and `again N`,
+   that it came again behind others */
+static void read_choice(struct rank *rank, struct call *last) {
+    int number = positive(1), i = rank->count;
+    if (word_count != 2) fail_reading("a choice is none");
+    if (is_word(0, "choice")) {
+        last->choice = number;
+        return;
+    }
+    while (i > 0 && rank->calls[i - 1].choice != number) i--;
+    if (!i) fail_reading("a choice is missing");
+    if (is_word(0, "spins"))
+        rank->calls[i - 1].spins = 1;
+    else
+        rank->calls[i - 1].again = 1;
+}
+
 static void read_line(struct rank *rank, char *text, int *most) {
     struct call *last = rank->count ? rank->calls + rank->count - 1 : NULL;
     if (!strncmp(text, "site ", 5)) {
@@ -344,6 +361,8 @@ static void read_line(struct rank *rank, char *text, int *most) {
         read_failure(last);
     else if (!strcmp(what, "found") && last)
         read_found(rank, last);
+    else if ((!strcmp(what, "choice") || !strcmp(what, "spins") || !strcmp(what, "again")) && last)
+        read_choice(rank, last);
     else if (!strcmp(what, "state") && (is_word(1, "i") || is_word(1, "b") || is_word(1, "?")) && !rank->comm_count)
         rank->inside = is_word(1, "?") ? 0 : *word(1);
     else if (!strcmp(what, "cut"))

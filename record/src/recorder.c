@@ -150,24 +150,36 @@ static void begin_line(const char *function, const char *operation) {
     put("call %s %s", function, operation);
 }
 
-static char **polls;
-static int poll_count;
+static struct poll {
+    char *line;
+    int choice, again;
+} *polls;
+static int poll_count, last_poll;
 
 void begin_call(const char *function, const char *operation) {
-    while (poll_count) free(polls[--poll_count]);
+    while (poll_count) free(polls[--poll_count].line);
     begin_line(function, operation);
 }
 
 void begin_poll(const char *function) { begin_line(function, "polls"); }
 
-void end_poll(void) {
+int end_poll(void) {
     put("%c", 0);
     for (int i = 0; i < poll_count; i++)
-        if (!strcmp(polls[i], line)) return;
+        if (!strcmp(polls[i].line, line)) {
+            line_length = 0;
+            if (i != last_poll && polls[i].choice && !polls[i].again++) plain_line("again %d", polls[i].choice);
+            last_poll = i;
+            return polls[i].choice;
+        }
+    last_poll = poll_count;
     polls = room(polls, sizeof *polls * (size_t)(poll_count + 1));
-    polls[poll_count++] = strcpy(room(NULL, line_length), line);
+    polls[poll_count].line = strcpy(room(NULL, line_length), line);
     line_length--;
     end_call();
+    polls[poll_count].again = 0;
+    polls[poll_count].choice = new_choice(poll_count);
+    return polls[poll_count++].choice;
 }
 
 /* The call sites that are told of a call, from the inside out. */
@@ -387,6 +399,7 @@ void start_recording(void) {
     find_end_of_main();
     add_comm(MPI_COMM_WORLD, "world");
     add_comm(MPI_COMM_SELF, "self");
+    read_outcomes(rank);
     by_marks = option("RECORD_MARKS");
     inside_marks = !by_marks;
 }
@@ -396,6 +409,7 @@ void end_recording(const char *function, const char *operation) {
     inside_marks = 1;
     begin_call(function, operation);
     end_call();
+    end_outcomes();
     ended = 1;
     if (file >= 0) close(file);
     file = -1;

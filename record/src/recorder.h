@@ -53,9 +53,20 @@ void write_bytes(const char *bytes, size_t length);
 void write_line(void);  /* also where no calls are recorded: what later lines name */
 void new_line(void);
 
-/* Tests that fail: those that differ are told once each, until something else is told. */
+/* Polls in a row: those that differ are told once each, until something else is told. */
 void begin_poll(const char *function);
-void end_poll(void);
+int end_poll(void);  /* its number, or 0 where outcomes aren't told */
+
+/* outcomes.c: those that the program can see, told and forced; without RECORD_OUTCOMES each number is 0, and nothing is done */
+void read_outcomes(int rank);
+void end_outcomes(void);
+int outcomes_on(void);
+int new_choice(int place);  /* the number of the call that was told last, which it tells; of polls their place in the row, else 0 */
+void tell_choice(int choice);
+void force_source(int choice, MPI_Comm handle, int *peer, int *tag);
+void force_probe(int choice, MPI_Comm *handle, int *peer, int *tag);
+MPI_Request *force_requests(int choice, int *count, MPI_Request *requests, struct request **of);
+void end_forced(int count, struct request **of);  /* behind the call, while the requests are still held */
 
 /* errors.c: a call of the program returned an error, or its handler was called */
 void check_result(int result);

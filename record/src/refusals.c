@@ -112,7 +112,10 @@ static void refuse_threads(int r) {
 void look_for_refusals(void) {
     for (int r = 0; r < rank_count; r++) {
         if (options.free_tests || options.this_run) leave_out_tests(r);
-        settle_polls(r);
+        if (options.outcomes)
+            settle_choices(r);
+        else
+            settle_polls(r);
         refuse_threads(r);
         for (int i = 0; i < ranks[r].count; i++)
             if (!ranks[r].calls[i].dropped) refuse_call(r, ranks[r].calls + i);
@@ -122,7 +125,7 @@ void look_for_refusals(void) {
 static void tell_what_is_taken(int softly, int left_out) {
     if (softly) {
         found_path(P_THIS_RUN);
-        note("THE TEXT IS ONE PATH THAT ONE RUN TOOK: a deadlock may be none of the program's, and `no deadlock` says nothing of other paths");
+        note("THE TEXT IS ONE PATH THAT ONE RUN TOOK: a deadlock may be none of the program's, and `no deadlock` says nothing of other paths (--paths)");
     }
     if (left_out) note("THE TEXT LACKS CALLS OF THE PROGRAM: a deadlock may be none of the program's, and `no deadlock` says nothing of what they wait for");
 }
@@ -144,7 +147,7 @@ void tell_refusals(void) {
         hard |= !taken, softly |= refusal->softly, left_out |= !refusal->softly;
     }
     if (hard) {
-        fprintf(stderr, "nothing was written: the program is not single-path, or uses calls that are not covered (--this-run, --leave-out)\n");
+        fprintf(stderr, "nothing was written: the program is not single-path, or uses calls that are not covered (--paths, --this-run, --leave-out)\n");
         exit(3);
     }
     tell_what_is_taken(softly, left_out);

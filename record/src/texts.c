@@ -336,10 +336,10 @@ static void count_pairs(struct text *text, int phase) {
 }
 
 static void note_choices(const struct text *text) {
-    if (!text->asked) return;
-    found_path(P_ONE_OF_SEVERAL);
+    if (text->asked || options.outcomes) found_path(P_ONE_OF_SEVERAL);
+    if (!text->asked || options.outcomes) return;
     note("one path: %ld receives or probes may find messages of several ranks, and the program asks which one it was (first rank %d in %s): where "
-         "what it does next depends on that, this text is not the program", text->asked, text->asked_rank,
+         "what it does next depends on that, this text is not the program (--paths)", text->asked, text->asked_rank,
          place_of(ranks + text->asked_rank, text->first_asked));
 }
 
@@ -363,9 +363,9 @@ static void put_rank(struct text *text, int rank, int phase) {
     put_word(&text->bytes, "\n");
     text->lines++;
     for (int i = 0; i < lines[rank].count; i++) {
-        const struct line *line = lines[rank].at + i;
+        struct line *line = lines[rank].at + i;
         if (!in_phase(line, phase)) continue;
-        text->lines++;
+        line->number = ++text->lines;
         put_line(&text->bytes, text, line, names, &named);
         if (text->plain) put_map_line(&text->map, text->lines, rank, line);
         count_line(text, line);
@@ -494,6 +494,10 @@ static void write_map(const char *name, const struct text *text) {
     write_file(name, "map", head, &text->map, "end\n");
 }
 
+int comm_in_text(struct text *text, const char *comm) { return comm == same("world") ? 0 : number_in(&text->comms, (size_t)comm) + 1; }
+
+int tag_in_text(struct text *text, int tag) { return number_of_tag(text, tag); }
+
 static int highest_communicator(const struct text *text) {
     int next = first_meeting(text) + text->meeting_count;
     if (text->message_count) return next + (text->message_count - 1) / (MOST_TAG + 1);
@@ -518,6 +522,7 @@ void write_text(const char *name, int phase, const char *suffix) {
     struct text text = make_text(phase, 1, name);
     write_file(name, "mpi", "", &text.bytes, "");
     write_map(name, &text);
+    if (options.outcomes) write_choices(name, &text);
     for (int i = 0; i < note_count && phase < 0; i++) printf("note: %s\n", notes[i]);
     if (phase < 0) tell_end();
     tell_text(name, &text);

@@ -268,4 +268,4 @@ pub record IsShapedAs (c : Command) (app : App) : Type 0 where
 
 -- what `--version` prints
 abbrev pub version_line : List ℕ
-version_line = codes "mpiprove 0.1.0\n"
+version_line = codes "mpiprove 1.0.0\n"

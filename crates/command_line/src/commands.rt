@@ -23,7 +23,7 @@ use std::alloc::{AllocError, Global};
 pub fn version_line() -> &'static str
     ensures { result.now ≡ version_line }
 {
-    "mpiprove 0.1.0\n"
+    "mpiprove 1.0.0\n"
 }
 
 /// A command with one more command below it. Either may be missing for want of memory, so that a

@@ -1,0 +1,1 @@
+autocmd BufNewFile,BufRead *.mpi,*.spmd setfiletype mpiprove

@@ -1,0 +1,2 @@
+use mpi_f08
+end
